@@ -1,11 +1,10 @@
 -- Which nodes are kept and what becomes of them, as functions of the nodes. A node's `next` word is its mark, and then its new number: the
 -- hash lists are made anew at the end. Assumes nothing.
-use Rattle.std.specs.Prelude.{Bool, true, false, cond, List, [], ◌∷◌, map, ℕ, zero, suc, ◌+◌, ◌-◌, ◌/◌, ltb, eqb, length, get_or, set, take, replicate}
+use Rattle.std.specs.Prelude.{Result, Ok, Err, ⊤, Bool, true, false, cond, List, [], ◌∷◌, map, ℕ, zero, suc, ◌+◌, ◌-◌, ◌/◌, ltb, eqb, length, get_or, set, take, replicate}
 use Rattle.diagrams.specs.declared.Vertex.{Vertex}
 use Rattle.diagrams.specs.Words.{node_at, flip, edge_to}
 use Rattle.diagrams.specs.States.{State, list_of, paid, is_paid}
-use Rattle.collection.specs.declared.Collected.{Collected}
-use Rattle.collection.specs.declared.Collected.TheVariants as variants
+use Rattle.diagrams.specs.declared.Full.{Full}
 
 -- a state with other nodes
 abbrev pub with_nodes : State → List Vertex → State
@@ -113,9 +112,13 @@ pub record Collection : Type 0 where
   pub roots : List ℕ
   pub kept : Bool
 
+-- what a collection answers: that the looks sufficed, or that they are spent
+abbrev pub Collected : Type 0
+Collected = Result ⊤ Full
+
 abbrev pub is_kept : Collected → Bool
-is_kept variants.Kept = true
-is_kept variants.Full = false
+is_kept (Ok done) = true
+is_kept (Err full) = false
 
 -- what is left beside an answer
 abbrev pub collection : State → List ℕ → Bool → Collection

@@ -9,11 +9,7 @@ ghost use Rattle.diagrams.specs.States as S;
 ghost use Rattle.collection.specs.Collecting as C;
 ghost use Rattle.collection.specs.Zeros as Z;
 
-#[derive(Clone, Copy)]
-pub enum Collected {
-    Kept,
-    Full,
-}
+use diagrams::Full;
 
 // Writes node k.
 fn store(w: &mut [u32], k: u32, n: diagrams::Vertex)
@@ -237,7 +233,7 @@ fn rehash(w: &mut [u32], last: u32)
     }
 }
 
-fn gather(w: &mut [u32], roots: &mut [u32]) -> Collected
+fn gather(w: &mut [u32], roots: &mut [u32]) -> Result<(), Full>
     requires { (length (S.state_of w.old).nodes ≤ (S.state_of w.old).room) × (0 < length (S.state_of w.old).nodes) }
     ensures { C.collection (S.state_of w.new) roots.new (C.is_kept result)
         ≡ C.gathered (S.state_of w.old) roots.old }
@@ -249,25 +245,25 @@ fn gather(w: &mut [u32], roots: &mut [u32]) -> Collected
     trim(w, k);
     rehash(w, k - 1);
     if diagrams::pay(w, k / 2) {
-        return Collected::Kept;
+        return Ok(());
     }
-    Collected::Full
+    Err(Full)
 }
 
 // Keeps the nodes that the roots need, for a quarter of a look for each node and half a look for each that is kept.
-pub fn collect(w: &mut [u32], roots: &mut [u32]) -> Collected
+pub fn collect(w: &mut [u32], roots: &mut [u32]) -> Result<(), Full>
     ensures { C.collection (S.state_of w.new) roots.new (C.is_kept result)
         ≡ C.collected (S.state_of w.old) roots.old }
 {
     let n = diagrams::get(w, 0);
     if n == 0 {
-        return Collected::Full;
+        return Err(Full);
     }
     if diagrams::room(w.len()) < n {
-        return Collected::Full;
+        return Err(Full);
     }
     if diagrams::pay(w, n / 4) {
         return gather(w, roots);
     }
-    Collected::Full
+    Err(Full)
 }

@@ -8,10 +8,10 @@ use native.Mathlib.Omega.{arith}
 use borrow.Author.Tests.{eq-eqb, ne_eqb}
 use lib.Dec.{eqb}
 use Rattle.diagrams.specs.declared.Vertex.{Vertex}
-use Rattle.diagrams.specs.declared.Hint.{Hint}
-use Rattle.diagrams.specs.declared.Hint.TheVariants as hint-variants
+use Rattle.std.specs.Prelude as code
+use Rattle.std.specs.Prelude.{Ok, Err}
 use Rattle.diagrams.specs.Words.{node_at, flip}
-use Rattle.diagrams.specs.States.{State, Outcome, outcome, and_then, Seen, paid, is_paid, entry_of, looked_up, or_else, made, keeping, finished}
+use Rattle.diagrams.specs.States.{State, Outcome, outcome, and_then, Seen, paid, is_paid, entry_of, looked_up, or_else, made, keeping, finished, Hint}
 use Rattle.diagrams.proofs.Follow.{then-full, then-edge, else-edge, else-full, else-nothing, remembered-edge, remembered-full}
 use Rattle.diagrams.proofs.Sound.{paid-cache}
 use Rattle.conjunction.specs.declared.Split.{Split}
@@ -24,17 +24,17 @@ abbrev pub seen_as : State → Hint → Seen
 seen_as s h = record { state = s; hint = h }
 
 module _ (s t : State) (f g h : ℕ) (e : t ≡ paid s 1) where
-  pub looked-some : (r : Hint) → is_paid s 1 ≡ true → r ≡ entry_of t.cache f g h → seen_as t r ≡ looked_up s f g h
+  pub looked-some : (r : code.Option ℕ) → is_paid s 1 ≡ true → r ≡ entry_of t.cache f g h → seen_as t (Ok r) ≡ looked_up s f g h
   unfolding looked_up
   looked-some r p q =
-      ap₂ seen_as e (q ∙ ap (λ (u : State). entry_of u.cache f g h) e ∙ ap (λ (c : List ℕ). entry_of c f g h) (paid-cache s 1))
-      ∙ ap (λ (b : Bool). seen_as (paid s 1) (cond b (entry_of s.cache f g h) hint-variants.Full)) (sym p)
+      ap₂ (λ (u : State) (x : code.Option ℕ). seen_as u (Ok x)) e (q ∙ ap (λ (u : State). entry_of u.cache f g h) e ∙ ap (λ (c : List ℕ). entry_of c f g h) (paid-cache s 1))
+      ∙ ap (λ (b : Bool). seen_as (paid s 1) (cond b (Ok (entry_of s.cache f g h)) (Err (record {})))) (sym p)
 
-  pub looked-none : is_paid s 1 ≡ false → seen_as t hint-variants.Full ≡ looked_up s f g h
+  pub looked-none : is_paid s 1 ≡ false → seen_as t (Err (record {})) ≡ looked_up s f g h
   unfolding looked_up
   looked-none p =
-      ap (λ (u : State). seen_as u hint-variants.Full) e
-      ∙ ap (λ (b : Bool). seen_as (paid s 1) (cond b (entry_of s.cache f g h) hint-variants.Full)) (sym p)
+      ap (λ (u : State). seen_as u (Err (record {}))) e
+      ∙ ap (λ (b : Bool). seen_as (paid s 1) (cond b (Ok (entry_of s.cache f g h)) (Err (record {})))) (sym p)
 
 -- ---- a node that is kept
 
@@ -61,17 +61,17 @@ split_by ns f g p q v f0 g0 f1 g1 ep eq ev a b c d =
 -- ---- what is known
 
 module _ (s : State) (f g : ℕ) where
-  pub known-one : f ≡ 1 → seen_as s (hint-variants.Edge g) ≡ known s f g
+  pub known-one : f ≡ 1 → seen_as s (Ok (code.Some g)) ≡ known s f g
   unfolding known
   known-one e = sym (rw (eq-eqb f 1 e))
 
   module _ (n : f ≡ 1 → ⊥) where
-    pub known-zero : f ≡ 0 → seen_as s (hint-variants.Edge 0) ≡ known s f g
+    pub known-zero : f ≡ 0 → seen_as s (Ok (code.Some 0)) ≡ known s f g
     unfolding known
     known-zero e = sym (rw (ne_eqb f 1 n, eq-eqb f 0 e))
 
     module _ (m : f ≡ 0 → ⊥) where
-      pub known-opposite : f / 2 ≡ g / 2 → seen_as s (hint-variants.Edge 0) ≡ known s f g
+      pub known-opposite : f / 2 ≡ g / 2 → seen_as s (Ok (code.Some 0)) ≡ known s f g
       unfolding known
       known-opposite e = sym (rw (ne_eqb f 1 n, ne_eqb f 0 m, eq-eqb (f / 2) (g / 2) e))
 
@@ -97,15 +97,15 @@ module _ (s : State) (a b f g : ℕ) (differ : a ≡ b → ⊥) (ef : f ≡ smal
   within-any zero o h = ordered (or_known no_turn) o (h no_turn)
   within-any (suc n) o h = ordered (or_known (turn (both_within n))) o (h (turn (both_within n)))
 
-  pub within-known : (n : ℕ) (t : State) (e : ℕ) → seen_as t (hint-variants.Edge e) ≡ known s f g → outcome t (some e) ≡ both_within n s a b
+  pub within-known : (n : ℕ) (t : State) (e : ℕ) → seen_as t (Ok (code.Some e)) ≡ known s f g → outcome t (some e) ≡ both_within n s a b
   unfolding or_known
   within-known n t e k = within-any n (outcome t (some e)) (λ way. else-edge (known s f g) (λ u. way u f g) t e k)
 
-  pub within-full : (n : ℕ) (t : State) → seen_as t hint-variants.Full ≡ known s f g → outcome t none ≡ both_within n s a b
+  pub within-full : (n : ℕ) (t : State) → seen_as t (Err (record {})) ≡ known s f g → outcome t none ≡ both_within n s a b
   unfolding or_known
   within-full n t k = within-any n (outcome t none) (λ way. else-full (known s f g) (λ u. way u f g) t k)
 
-  module _ (t : State) (k : seen_as t hint-variants.Nothing ≡ known s f g) where
+  module _ (t : State) (k : seen_as t (Ok code.None) ≡ known s f g) where
     pub within-spent : (n : ℕ) → n ≡ 0 → outcome t none ≡ both_within n s a b
     unfolding or_known both_within
     within-spent n z =

@@ -2,7 +2,8 @@
 use Rattle.std.specs.Prelude.{cond, List, ℕ, zero, suc, ◌/◌, ltb, eqb}
 use Rattle.std.proofs.Math.Option.{none, some}
 use Rattle.diagrams.specs.declared.Vertex.{Vertex}
-use Rattle.diagrams.specs.declared.Hint.TheVariants as hint-variants
+use Rattle.std.specs.Prelude as code
+use Rattle.std.specs.Prelude.{Ok}
 use Rattle.diagrams.specs.Words.{node_at, flip}
 use Rattle.diagrams.specs.States.{State, Outcome, outcome, and_then, Seen, looked_up, or_else, finished}
 use Rattle.conjunction.specs.declared.Split.{Split}
@@ -32,9 +33,9 @@ split_of ns f g =
 -- what is known of two different edges in order without their nodes: constants, an edge and its complement, or what the cache has
 unfoldable pub known : State → ℕ → ℕ → Seen
 known s f g =
-    cond (eqb f 1) (record { state = s; hint = hint-variants.Edge g })
-    (cond (eqb f 0) (record { state = s; hint = hint-variants.Edge 0 })
-    (cond (eqb (f / 2) (g / 2)) (record { state = s; hint = hint-variants.Edge 0 }) (looked_up s f g 0)))
+    cond (eqb f 1) (record { state = s; hint = Ok (code.Some g) })
+    (cond (eqb f 0) (record { state = s; hint = Ok (code.Some 0) })
+    (cond (eqb (f / 2) (g / 2)) (record { state = s; hint = Ok (code.Some 0) }) (looked_up s f g 0)))
 
 -- a way to conjoin two edges
 abbrev pub Way : Type 0

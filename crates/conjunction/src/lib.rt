@@ -5,6 +5,8 @@ ghost use Rattle.std.specs.Prelude.{◌≡◌};
 ghost use Rattle.diagrams.specs.States as S;
 ghost use Rattle.conjunction.specs.Conjunction as C;
 
+use diagrams::Full;
+
 // The topmost variable of two edges, and where they lead for its two values.
 #[derive(Clone, Copy)]
 pub struct Split {
@@ -16,26 +18,22 @@ pub struct Split {
 }
 
 // What the cache has for three operands, for one look.
-pub fn look_up(w: &mut [u32], f: u32, g: u32, h: u32) -> diagrams::Hint
+pub fn look_up(w: &mut [u32], f: u32, g: u32, h: u32) -> Result<Option<u32>, Full>
     ensures { S.seen w.new result ≡ S.looked_up (S.state_of w.old) f g h }
 {
     if diagrams::pay(w, 1) {
-        return diagrams::entry(w, f, g, h);
+        return Ok(diagrams::entry(w, f, g, h));
     }
-    diagrams::Hint::Full
+    Err(Full)
 }
 
 // The node of two results, kept as the result for three operands.
-pub fn finish(w: &mut [u32], v: u32, lo: u32, hi: u32, f: u32, g: u32, h: u32) -> diagrams::Made
+pub fn finish(w: &mut [u32], v: u32, lo: u32, hi: u32, f: u32, g: u32, h: u32) -> Result<u32, Full>
     ensures { S.left w.new result ≡ S.finished (S.state_of w.old) v lo hi f g h }
 {
-    match diagrams::node(w, v, lo, hi) {
-        diagrams::Made::Edge(e) => {
-            diagrams::keep(w, f, g, h, e);
-            diagrams::Made::Edge(e)
-        }
-        diagrams::Made::Full => diagrams::Made::Full,
-    }
+    let e = diagrams::node(w, v, lo, hi)?;
+    diagrams::keep(w, f, g, h, e);
+    Ok(e)
 }
 
 fn smaller(a: u32, b: u32) -> u32
@@ -91,62 +89,53 @@ fn cofactors(w: &[u32], f: u32, g: u32) -> Split
 }
 
 // What is known of two different edges in order without their nodes: constants, an edge and its complement, or what the cache has.
-fn known(w: &mut [u32], f: u32, g: u32) -> diagrams::Hint
+fn known(w: &mut [u32], f: u32, g: u32) -> Result<Option<u32>, Full>
     ensures { S.seen w.new result ≡ C.known (S.state_of w.old) f g }
 {
     if f == 1 {
-        return diagrams::Hint::Edge(g);
+        return Ok(Some(g));
     }
     if f == 0 {
-        return diagrams::Hint::Edge(0);
+        return Ok(Some(0));
     }
     if f / 2 == g / 2 {
-        return diagrams::Hint::Edge(0);
+        return Ok(Some(0));
     }
     look_up(w, f, g, 0)
 }
 
 // The conjunction of two edges in so many nested turns.
-fn both_within(w: &mut [u32], a: u32, b: u32, turns: u32) -> diagrams::Made
+fn both_within(w: &mut [u32], a: u32, b: u32, turns: u32) -> Result<u32, Full>
     ensures { S.left w.new result ≡ C.both_within turns (S.state_of w.old) a b }
 {
     if a == b {
-        return diagrams::Made::Edge(a);
+        return Ok(a);
     }
     let f = smaller(a, b);
     let g = larger(a, b);
-    match known(w, f, g) {
-        diagrams::Hint::Edge(e) => diagrams::Made::Edge(e),
-        diagrams::Hint::Full => diagrams::Made::Full,
-        diagrams::Hint::Nothing => {
-            if turns == 0 {
-                return diagrams::Made::Full;
-            }
-            let x = cofactors(w, f, g);
-            match both_within(w, x.f0, x.g0, turns - 1) {
-                diagrams::Made::Full => diagrams::Made::Full,
-                diagrams::Made::Edge(lo) => match both_within(w, x.f1, x.g1, turns - 1) {
-                    diagrams::Made::Full => diagrams::Made::Full,
-                    diagrams::Made::Edge(hi) => finish(w, x.var, lo, hi, f, g, 0),
-                },
-            }
-        }
+    if let Some(e) = known(w, f, g)? {
+        return Ok(e);
     }
+    if turns == 0 {
+        return Err(Full);
+    }
+    let x = cofactors(w, f, g);
+    let lo = both_within(w, x.f0, x.g0, turns - 1)?;
+    let hi = both_within(w, x.f1, x.g1, turns - 1)?;
+    finish(w, x.var, lo, hi, f, g, 0)
 }
 
 // The conjunction of two edges.
-pub fn both(w: &mut [u32], f: u32, g: u32) -> diagrams::Made
+pub fn both(w: &mut [u32], f: u32, g: u32) -> Result<u32, Full>
     ensures { S.left w.new result ≡ C.both (S.state_of w.old) f g }
 {
     both_within(w, f, g, 1280)
 }
 
 // The disjunction of two edges.
-pub fn either(w: &mut [u32], f: u32, g: u32) -> diagrams::Made
+pub fn either(w: &mut [u32], f: u32, g: u32) -> Result<u32, Full>
     ensures { S.left w.new result ≡ C.either (S.state_of w.old) f g }
 {
-    match both(w, diagrams::flip(f, 1), diagrams::flip(g, 1)) {
-        diagrams::Made::Edge(e) => diagrams::Made::Edge(diagrams::flip(e, 1)),
-        diagrams::Made::Full => diagrams::Made::Full,
-    }
+    let e = both(w, diagrams::flip(f, 1), diagrams::flip(g, 1))?;
+    Ok(diagrams::flip(e, 1))
 }

@@ -13,7 +13,7 @@ ghost use Rattle.diagrams.specs.States as S;
 ghost use Rattle.diagram_rows.specs.Rows as R;
 ghost use Rattle.diagram_rows.specs.Words.{Prepared, triple_word, single_word};
 
-use diagrams::Made;
+use diagrams::Full;
 use layout::Layout;
 use literals::{Lit, Var};
 
@@ -50,15 +50,15 @@ fn edge_of(edges: &[u32], l: Lit) -> u32
 }
 
 // Gives a variable the edge that was made; false where there is none.
-fn note(made: Made, v: Var, edges: &mut [u32]) -> bool
+fn note(made: Result<u32, Full>, v: Var, edges: &mut [u32]) -> bool
     ensures { R.words_of result edges.new ≡ R.noted (edge_of made) v.0 edges.old }
 {
     match made {
-        Made::Edge(e) => {
+        Ok(e) => {
             memory::put(edges, v.0 as usize, e);
             true
         }
-        Made::Full => false,
+        Err(_) => false,
     }
 }
 
@@ -181,35 +181,28 @@ fn put_gates(w: &mut [u32], m: &[u32], layout: Layout, gates: &[u32], edges: &mu
 // ---- lines
 
 // The conjunction of an edge and a literal; full where the literal has no edge.
-fn with_literal(w: &mut [u32], e: u32, l: Lit, edges: &[u32]) -> Made
+fn with_literal(w: &mut [u32], e: u32, l: Lit, edges: &[u32]) -> Result<u32, Full>
     ensures { left w.new result ≡ R.with_literal edges.now l (state_of w.old) e }
 {
     if !is_present(edges, l) {
-        return Made::Full;
+        return Err(Full);
     }
     let f = edge_of(edges, l);
     conjunction::both(w, e, f)
 }
 
 // The conjunction of the constraints.
-fn constrain(w: &mut [u32], m: &[u32], layout: Layout, edges: &[u32]) -> Made
+fn constrain(w: &mut [u32], m: &[u32], layout: Layout, edges: &[u32]) -> Result<u32, Full>
     requires { Prepared m.now layout }
     ensures { left w.new result
         ≡ R.with_literals edges.now (circuit_in m.now).constraints (state_of w.old) 1 }
 {
-    let count = layout.c;
     let constraints = layout.constraints;
     let mut con = 1;
-    let mut k = 0;
-    while k < count {
-        let made = with_literal(w, con, Lit::from_word(m[constraints + k]), edges);
-        let Made::Edge(e) = made else {
-            return Made::Full;
-        };
-        con = e;
-        k += 1;
+    for k in 0..layout.c {
+        con = with_literal(w, con, Lit::from_word(m[constraints + k]), edges)?;
     }
-    Made::Edge(con)
+    Ok(con)
 }
 
 // Whether every next literal has an edge.
@@ -271,12 +264,12 @@ fn finish_row(
         (R.row_end (circuit_in m.now) b latches.now (state_of w.old) edges.now) }
 {
     let made = constrain(w, m, layout, edges);
-    let Made::Edge(con) = made else {
+    let Ok(con) = made else {
         return false;
     };
     let bad = single_at(m, layout.bads, layout.b, b);
     let last = with_literal(w, con, bad, edges);
-    let Made::Edge(hit) = last else {
+    let Ok(hit) = last else {
         return false;
     };
     if !are_present(m, layout, latches, edges) {

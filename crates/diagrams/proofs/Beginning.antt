@@ -1,4 +1,4 @@
--- A loop that stores 0 everywhere, and the diagram with node 0 alone, which is good. Assumes nothing.
+-- The diagram with node 0 alone, which is good. Assumes nothing.
 use mathlib.Core.Path.{◌≡◌, refl, sym, ap, ◌∙◌}
 use mathlib.Core.List.{List, [], ◌∷◌, ◌++◌}
 use mathlib.Core.Bool.{Bool, true, false, cond}
@@ -14,34 +14,10 @@ use Rattle.diagrams.specs.Meaning.{Built, Terms, Entry, empty, Good}
 use Rattle.diagrams.proofs.View.{node-eq, node-whole, room-is, length-cache, cache-at}
 use Rattle.diagrams.proofs.Stores.{room_small}
 
--- the first i words are 0
-pub record Cleared (old new : List ℕ) (i : ℕ) : Type 0 where
-  pub long : length new ≡ length old
-  pub zeros : (j : ℕ) → j < i → get_or new j 0 ≡ 0
-
-pub cleared-none : (old : List ℕ) → Cleared old old 0
-cleared-none old = record { long = refl; zeros = λ j h. absurd (omega arith) }
-
-pub cleared_more : (old new : List ℕ) (i : ℕ) → i < length new → Cleared old new i → Cleared old (set new i 0) (i + 1)
-cleared_more old new i h c =
-    record {
-      long = length-set new i 0 ∙ c.long;
-      zeros = λ j l. go j l (ℕ_discrete j i);
-    }
-  where
-    go : (j : ℕ) → j < i + 1 → Dec (j ≡ i) → get_or (set new i 0) j 0 ≡ 0
-    go j l (yes e) = ap (λ (k : ℕ). get_or (set new i 0) k 0) e ∙ get_or-set_same new i 0 0 h
-    go j l (no e) = get_or-set_other new i j 0 0 e ∙ c.zeros j (omega arith)
-
 zeros-at : (n i : ℕ) → get_or {A = ℕ} (replicate n 0) i 0 ≡ 0
 zeros-at zero i = refl
 zeros-at (suc n) zero = refl
 zeros-at (suc n) (suc i) = zeros-at n i
-
-pub cleared-all : (old new : List ℕ) (i : ℕ) → length new ≤ i → Cleared old new i → new ≡ replicate (length old) 0
-cleared-all old new i h c =
-    let l = length-replicate {A = ℕ} (length old) 0 in
-    ext_get_or 0 new (replicate (length old) 0) (c.long ∙ sym l) (λ j q. c.zeros j (omega arith) ∙ sym (zeros-at (length old) j))
 
 -- ---- the beginning
 

@@ -1,6 +1,6 @@
 -- The steps of the code against the definitions: one law for each way through a function. Assumes nothing.
 use mathlib.Core.Path.{◌≡◌, refl, sym, ap, ap₂, ◌∙◌}
-use mathlib.Core.Bool.{Bool, true, false, cond}
+use mathlib.Core.Bool.{Bool, true, false, cond, false≢true}
 use mathlib.Core.List.{List, [], ◌∷◌, ◌++◌}
 use mathlib.Core.Option.{Option, none, some}
 use Prim.Native.Nat.{ℕ, zero, suc, ◌+◌, ◌*◌, ◌/◌, ◌≤◌, ◌<◌}
@@ -9,13 +9,17 @@ use borrow.Author.Tests.{lt-ltb, le-ltb, eq-eqb, ne_eqb}
 use lib.Dec.{ltb, eqb}
 use lib.ListN.{length, get_or}
 use Rattle.diagrams.specs.declared.Vertex.{Vertex}
-use Rattle.diagrams.specs.declared.Made.{Made}
-use Rattle.diagrams.specs.declared.Hint.{Hint}
-use Rattle.diagrams.specs.declared.Hint.TheVariants as hint-variants
+use Rattle.std.specs.Prelude as code
+use Rattle.std.specs.Prelude.{Ok, Err, IsErr}
 use Rattle.diagrams.specs.Words.{node_at, bucket_of, flip, edge_to, is_node}
-use Rattle.diagrams.specs.States.{State, state_of, Outcome, outcome, edge_of, left, and_then, found, is_above, added, appended, or_appended, list_of, found_or_appended, made, keeping, remembered, Seen, or_else}
+use Rattle.diagrams.specs.States.{State, state_of, Outcome, outcome, edge_of, Made, left, and_then, found, is_above, added, appended, or_appended, list_of, found_or_appended, made, keeping, remembered, Seen, or_else}
 
 -- ---- one call after the other: what a match on the answer of a call asks
+
+-- the answer that `?` hands on
+pub full-left : (w : List ℕ) (r : Made) (o : Outcome) → IsErr r → outcome (state_of w) none ≡ o → left w r ≡ o
+full-left w (Ok e) o h q = absurd (false≢true h)
+full-left w (Err full) o h q = q
 
 pub then-full : (o : Outcome) (k : State → ℕ → Outcome) (t : State) → outcome t none ≡ o → outcome t none ≡ and_then o k
 then-full o k t h = ap (λ (x : Outcome). and_then x k) h
@@ -25,15 +29,15 @@ pub then-edge : (o : Outcome) (k : State → ℕ → Outcome) (t : State) (e : �
 then-edge o k t e x h q = q ∙ ap (λ (y : Outcome). and_then y k) h
 
 -- the same after a look
-pub else-edge : (x : Seen) (k : State → Outcome) (t : State) (e : ℕ) → record { state = t; hint = hint-variants.Edge e } ≡ x
+pub else-edge : (x : Seen) (k : State → Outcome) (t : State) (e : ℕ) → record { state = t; hint = Ok (code.Some e) } ≡ x
     → outcome t (some e) ≡ or_else x k
 else-edge x k t e h = ap (λ (y : Seen). or_else y k) h
 
-pub else-full : (x : Seen) (k : State → Outcome) (t : State) → record { state = t; hint = hint-variants.Full } ≡ x
+pub else-full : (x : Seen) (k : State → Outcome) (t : State) → record { state = t; hint = Err (record {}) } ≡ x
     → outcome t none ≡ or_else x k
 else-full x k t h = ap (λ (y : Seen). or_else y k) h
 
-pub else-nothing : (x : Seen) (k : State → Outcome) (t : State) (o : Outcome) → record { state = t; hint = hint-variants.Nothing } ≡ x
+pub else-nothing : (x : Seen) (k : State → Outcome) (t : State) (o : Outcome) → record { state = t; hint = Ok code.None } ≡ x
     → o ≡ k t
     → o ≡ or_else x k
 else-nothing x k t o h q = q ∙ ap (λ (y : Seen). or_else y k) h

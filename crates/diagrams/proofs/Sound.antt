@@ -13,10 +13,10 @@ use lib.Dec.{ltb, leb, eqb, lit<}
 use lib.ListN.{length, get_or, set, length-set, length-append, get_or-append, get_or-eq_default}
 use lib.Seq.{get_or_at}
 use Rattle.diagrams.specs.declared.Vertex.{Vertex}
-use Rattle.diagrams.specs.declared.Hint.{Hint}
-use Rattle.diagrams.specs.declared.Hint.TheVariants as hint-variants
+use Rattle.std.specs.Prelude as code
+use Rattle.std.specs.Prelude.{Ok, Err}
 use Rattle.diagrams.specs.Words.{no_vertex, node_at, bucket_of, flip, edge_to, is_node}
-use Rattle.diagrams.specs.States.{State, Outcome, outcome, on_edge, and_then, found, is_above, added, appended, or_appended, list_of, found_or_appended, made, paid, is_paid, entry_at, place_of, entry_of, Seen, looked_up, on_hint, or_else, stored, keeping, remembered, finished}
+use Rattle.diagrams.specs.States.{State, Outcome, outcome, on_edge, and_then, found, is_above, added, appended, or_appended, list_of, found_or_appended, made, paid, is_paid, entry_at, place_of, entry_of, Hint, Seen, looked_up, on_hint, or_else, stored, keeping, remembered, finished}
 use Rattle.diagrams.specs.Meaning.{Assignment, value, In, Above, Built, Front, if_else, Branch, Both, Either, Choice, Shadow, after, Composed, Terms, vector_of, with_vector, VectorsIn, Entry, empty, both, shadow, composed, Entries, Good, Answer, no_edge, is-edge, Right}
 use Rattle.diagrams.proofs.Values.{flip_is, flip-node, flip-in, value-flip, signed, value-new, value-node, value-edge, same-either, lo-in, hi-in, front_same, front-more, front_length, front-in, front-value, front-node}
 use Rattle.diagrams.proofs.View.{four_set, length-four, four-other, four-first, four-second, four-third, four-fourth}
@@ -482,9 +482,9 @@ paid-good {terms} s n g = go (ltb s.looks n)
 
 -- what a look told: nothing, that no look is left, or an edge of which holds what is asked
 pub data Told (asked : ℕ → Type 0) : Hint → Type 0 where
-  told-edge : {e : ℕ} → asked e → Told asked (hint-variants.Edge e)
-  told-nothing : Told asked hint-variants.Nothing
-  told-full : Told asked hint-variants.Full
+  told-edge : {e : ℕ} → asked e → Told asked (Ok (code.Some e))
+  told-nothing : Told asked (Ok code.None)
+  told-full : Told asked (Err (record {}))
 
 -- the state after a look is good, with the same nodes
 pub record RightSeen (terms : Terms) (s : State) (asked : ℕ → Type 0) (x : Seen) : Type 0 where
@@ -492,9 +492,10 @@ pub record RightSeen (terms : Terms) (s : State) (asked : ℕ → Type 0) (x : S
   pub same : x.state.nodes ≡ s.nodes
   pub told : Told asked x.hint
 
-pub told-if : {p : ℕ → Type 0} (b : Bool) (x y : Hint) → (b ≡ true → Told p x) → (b ≡ false → Told p y) → Told p (cond b x y)
-told-if true x y f g = f refl
-told-if false x y f g = g refl
+pub told-if : {p : ℕ → Type 0} {A : Type 0} (tells : A → Hint) (b : Bool) (x y : A) → (b ≡ true → Told p (tells x))
+    → (b ≡ false → Told p (tells y)) → Told p (tells (cond b x y))
+told-if tells true x y f g = f refl
+told-if tells false x y f g = g refl
 
 -- both ways of a test before a look
 pub seen_if : {terms : Terms} {s : State} {p : ℕ → Type 0} (b : Bool) (x y : Seen) → (b ≡ true → RightSeen terms s p x)
@@ -504,7 +505,7 @@ seen_if false x y f g = g refl
 
 -- an edge that is known without a look
 pub seen_here : {terms : Terms} {s : State} {p : ℕ → Type 0} → Good terms s → (e : ℕ) → p e
-    → RightSeen terms s p (record { state = s; hint = hint-variants.Edge e })
+    → RightSeen terms s p (record { state = s; hint = Ok (code.Some e) })
 seen_here g e q = record { good = g; same = refl; told = told-edge q }
 
 -- a look, and what is done where it tells nothing
@@ -529,16 +530,16 @@ entry-as terms ns {f} {g} {h} {r} {f'} {g'} {h'} {r'} p q t u e =
 
 module _ (terms : Terms) (s : State) (g : Good terms s) (a b c : ℕ) (asked : ℕ → Type 0)
     (has : (r : ℕ) → Entry terms s.nodes a b c r → asked r) where
-  entry-told : (i : ℕ) → Told asked (entry_at s.cache i a b c)
+  entry-told : (i : ℕ) → Told asked (Ok (entry_at s.cache i a b c))
   unfolding entry_at
   entry-told i =
       let l = s.cache in
       let p = eqb (get_or l (4 * i) 0) a in
       let q = eqb (get_or l (4 * i + 1) 0) b in
       let t = eqb (get_or l (4 * i + 2) 0) c in
-      told-if (ltb i (length l / 4)) _ _
+      told-if Ok (ltb i (length l / 4)) _ _
       (λ e.
-      told-if ((p && q) && t) _ _
+      told-if Ok ((p && q) && t) _ _
       (λ d.
       let pq = and_left (p && q) t d in
       told-edge
@@ -556,7 +557,7 @@ module _ (terms : Terms) (s : State) (g : Good terms s) (a b c : ℕ) (asked : �
       record {
         good = paid-good s 1 g;
         same = paid-nodes s 1;
-        told = told-if (is_paid s 1) _ _ (λ e. entry-told (place_of s.cache a b c)) (λ e. told-full);
+        told = told-if (λ h. h) (is_paid s 1) _ _ (λ e. entry-told (place_of s.cache a b c)) (λ e. told-full);
       }
 
 module _ (terms : Terms) (ns : List Vertex) (l : List ℕ) (a b c r : ℕ) (old : Entries terms ns l) (here : Entry terms ns a b c r) (i : ℕ)

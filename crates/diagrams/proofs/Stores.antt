@@ -12,8 +12,7 @@ use lib.Dec.{ltb, leb, eqb, lit<}
 use lib.ListN.{length, get_or, set, take, drop, replicate, length-set, length-replicate, get_or-eq_default}
 use lib.Seq.{get_or-set_same, get_or-set_other}
 use Rattle.diagrams.specs.declared.Vertex.{Vertex}
-use Rattle.diagrams.specs.declared.Hint.{Hint}
-use Rattle.diagrams.specs.declared.Hint.TheVariants as hint-variants
+use Rattle.std.specs.Prelude as code
 use Rattle.diagrams.specs.Words.{no_vertex, word_of, node_in, view, node_at, bucket_of, room_of}
 use Rattle.diagrams.specs.States.{State, state_of, added, paid, is_paid, entry_at, place_of, entry_of, stored, keeping}
 use Rattle.diagrams.proofs.View.{length-view, view-same, state-eq, room-same, node-same, nodes-same, heads-same, cache-same, heads-set, cache-set, count-is, looks-is, head-is, length-heads, length-cache, cache-at, four_set, length-four, four-other, four-node}
@@ -202,10 +201,10 @@ module _ (w : List ℕ) (f g h i at : ℕ) (ei : i ≡ bucket_of (length w / 16)
   place_is = let n : length cache / 4 ≡ length w / 16 = omega (arith, length-cache w) in ap (λ (x : ℕ). bucket_of x f g h) n ∙ sym ei
 
   -- what entry i has
-  abbrev here : Hint
+  abbrev here : code.Option ℕ
   here =
-      cond ((eqb (get_or w at 0) f && eqb (get_or w (at + 1) 0) g) && eqb (get_or w (at + 2) 0) h) (hint-variants.Edge (get_or w (at + 3) 0))
-      hint-variants.Nothing
+      cond ((eqb (get_or w at 0) f && eqb (get_or w (at + 1) 0) g) && eqb (get_or w (at + 2) 0) h) (code.Some (get_or w (at + 3) 0))
+      code.None
 
   pub entry_in : i < length w / 16 → entry_of cache f g h ≡ here
   unfolding entry_of entry_at
@@ -224,7 +223,7 @@ module _ (w : List ℕ) (f g h i at : ℕ) (ei : i ≡ bucket_of (length w / 16)
             (at + 3) (lit< tt) refl,
       )
 
-  pub entry-out : length w / 16 ≤ i → entry_of cache f g h ≡ hint-variants.Nothing
+  pub entry-out : length w / 16 ≤ i → entry_of cache f g h ≡ code.None
   unfolding entry_of entry_at
   entry-out l =
       let n = length-cache w in

@@ -1,11 +1,9 @@
 -- What a diagram in words is, and what each step leaves, as a function of it. Assumes nothing.
-use Rattle.std.specs.Prelude.{Bool, cond, ◌&&◌, List, [], ◌∷◌, ◌++◌, ℕ, zero, suc, ◌+◌, ◌-◌, ◌*◌, ◌/◌, ltb, leb, eqb, length, get_or, set, take, drop, replicate}
+use Rattle.std.specs.Prelude.{Result, Ok, Err, Bool, cond, ◌&&◌, List, [], ◌∷◌, ◌++◌, ℕ, zero, suc, ◌+◌, ◌-◌, ◌*◌, ◌/◌, ltb, leb, eqb, length, get_or, set, take, drop, replicate}
 use Rattle.std.proofs.Math.Option.{Option, none, some}
 use Rattle.diagrams.specs.declared.Vertex.{Vertex}
-use Rattle.diagrams.specs.declared.Made.{Made}
-use Rattle.diagrams.specs.declared.Made.TheVariants as made-variants
-use Rattle.diagrams.specs.declared.Hint.{Hint}
-use Rattle.diagrams.specs.declared.Hint.TheVariants as hint-variants
+use Rattle.std.specs.Prelude as code
+use Rattle.diagrams.specs.declared.Full.{Full}
 use Rattle.diagrams.specs.Words.{no_vertex, view, node_at, bucket_of, room_of, flip, edge_to, is_node}
 
 -- how many nodes fit, how many looks are left, the nodes, the heads of the hash lists, and the cache, four words for each entry. Words past
@@ -28,6 +26,14 @@ state_of w =
       cache = take (4 * (length w / 16)) (drop 4 w);
     }
 
+-- what a step answers: an edge, or that the diagram is full
+abbrev pub Made : Type 0
+Made = Result ℕ Full
+
+-- what a look answers: what is known of a result, or that no look is left
+abbrev pub Hint : Type 0
+Hint = Result (code.Option ℕ) Full
+
 -- a state, and an edge unless the answer is `Full`
 pub record Outcome : Type 0 where
   pub state : State
@@ -37,8 +43,8 @@ abbrev pub outcome : State → Option ℕ → Outcome
 outcome s e = record { state = s; edge = e }
 
 abbrev pub edge_of : Made → Option ℕ
-edge_of (made-variants.Edge e) = some e
-edge_of made-variants.Full = none
+edge_of (Ok e) = some e
+edge_of (Err full) = none
 
 -- what the words that are left and the answer stand for
 abbrev pub left : List ℕ → Made → Outcome
@@ -115,19 +121,19 @@ unfoldable pub is_paid : State → ℕ → Bool
 is_paid s n = leb n s.looks
 
 -- what entry i has for three operands
-unfoldable pub entry_at : List ℕ → ℕ → ℕ → ℕ → ℕ → Hint
+unfoldable pub entry_at : List ℕ → ℕ → ℕ → ℕ → ℕ → code.Option ℕ
 entry_at cache i f g h =
     cond (ltb i (length cache / 4))
     (cond ((eqb (get_or cache (4 * i) 0) f && eqb (get_or cache (4 * i + 1) 0) g) && eqb (get_or cache (4 * i + 2) 0) h)
-    (hint-variants.Edge (get_or cache (4 * i + 3) 0)) hint-variants.Nothing)
-    hint-variants.Nothing
+    (code.Some (get_or cache (4 * i + 3) 0)) code.None)
+    code.None
 
 -- the place of three operands
 abbrev pub place_of : List ℕ → ℕ → ℕ → ℕ → ℕ
 place_of cache f g h = bucket_of (length cache / 4) f g h
 
 -- what the cache has for three operands
-unfoldable pub entry_of : List ℕ → ℕ → ℕ → ℕ → Hint
+unfoldable pub entry_of : List ℕ → ℕ → ℕ → ℕ → code.Option ℕ
 entry_of cache f g h = entry_at cache (place_of cache f g h) f g h
 
 -- a state and what a look at the cache told
@@ -141,13 +147,13 @@ seen w r = record { state = state_of w; hint = r }
 
 -- a look for three operands, for one of the looks that are left: `Full` where there is none
 unfoldable pub looked_up : State → ℕ → ℕ → ℕ → Seen
-looked_up s f g h = record { state = paid s 1; hint = cond (is_paid s 1) (entry_of s.cache f g h) hint-variants.Full }
+looked_up s f g h = record { state = paid s 1; hint = cond (is_paid s 1) (Ok (entry_of s.cache f g h)) (Err (record {})) }
 
 -- what is done where nothing is known
 abbrev pub on_hint : Hint → State → (State → Outcome) → Outcome
-on_hint (hint-variants.Edge e) s k = outcome s (some e)
-on_hint hint-variants.Nothing s k = k s
-on_hint hint-variants.Full s k = outcome s none
+on_hint (Ok (code.Some e)) s k = outcome s (some e)
+on_hint (Ok code.None) s k = k s
+on_hint (Err full) s k = outcome s none
 
 abbrev pub or_else : Seen → (State → Outcome) → Outcome
 or_else x k = on_hint x.hint x.state k

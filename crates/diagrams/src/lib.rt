@@ -17,20 +17,9 @@ pub struct Vertex {
     pub next: u32,
 }
 
-// An edge; or no node, no look or no turn is left, or a variable does not stand above those of its edges.
+// No node, no look or no turn is left, or a variable does not stand above those of its edges.
 #[derive(Clone, Copy)]
-pub enum Made {
-    Edge(u32),
-    Full,
-}
-
-// What is known of a result: an edge, nothing, or that no look is left.
-#[derive(Clone, Copy)]
-pub enum Hint {
-    Edge(u32),
-    Nothing,
-    Full,
-}
+pub struct Full;
 
 // Word i, or 0 past the end.
 pub fn get(w: &[u32], i: usize) -> u32
@@ -121,8 +110,7 @@ fn find(w: &[u32], from: u32, v: u32, lo: u32, hi: u32) -> u32
     ensures { result ≡ S.found (S.state_of w.now).nodes v lo hi (length (S.state_of w.now).nodes) from }
 {
     let mut at = from;
-    let mut left = get(w, 0);
-    while 0 < left {
+    for _ in 0..get(w, 0) {
         if at == 0 {
             return 0;
         }
@@ -131,7 +119,6 @@ fn find(w: &[u32], from: u32, v: u32, lo: u32, hi: u32) -> u32
             return at;
         }
         at = n.next;
-        left -= 1;
     }
     0
 }
@@ -169,7 +156,7 @@ pub fn edge_to(k: u32) -> u32
 }
 
 // A new node, where there is room and its variable stands above its edges.
-fn append(w: &mut [u32], h: usize, v: u32, lo: u32, hi: u32) -> Made
+fn append(w: &mut [u32], h: usize, v: u32, lo: u32, hi: u32) -> Result<u32, Full>
     requires { h < 4294967296 }
     ensures { S.left w.new result ≡ S.appended (S.state_of w.old) h v lo hi }
 {
@@ -178,37 +165,35 @@ fn append(w: &mut [u32], h: usize, v: u32, lo: u32, hi: u32) -> Made
         if is_above(w, v, lo) {
             if is_above(w, v, hi) {
                 add(w, h, v, lo, hi);
-                return Made::Edge(edge_to(k));
+                return Ok(edge_to(k));
             }
         }
     }
-    Made::Full
+    Err(Full)
 }
 
 // The node that the hash lists have, or a new one.
-fn find_or_append(w: &mut [u32], v: u32, lo: u32, hi: u32) -> Made
+fn find_or_append(w: &mut [u32], v: u32, lo: u32, hi: u32) -> Result<u32, Full>
     ensures { S.left w.new result ≡ S.found_or_appended (S.state_of w.old) v lo hi }
 {
     let h = bucket(w.len() / 16, lo, hi, v);
     let k = find(w, head(w, h), v, lo, hi);
     if 0 < k {
-        return Made::Edge(edge_to(k));
+        return Ok(edge_to(k));
     }
     append(w, h, v, lo, hi)
 }
 
 // The edge that is hi where variable v is true and lo where it is false. In a node lo is no complement: that of the result is taken in its
 // place.
-pub fn node(w: &mut [u32], v: u32, lo: u32, hi: u32) -> Made
+pub fn node(w: &mut [u32], v: u32, lo: u32, hi: u32) -> Result<u32, Full>
     ensures { S.left w.new result ≡ S.made (S.state_of w.old) v lo hi }
 {
     if lo == hi {
-        return Made::Edge(lo);
+        return Ok(lo);
     }
-    match find_or_append(w, v, flip(lo, lo), flip(hi, lo)) {
-        Made::Edge(e) => Made::Edge(flip(e, lo)),
-        Made::Full => Made::Full,
-    }
+    let e = find_or_append(w, v, flip(lo, lo), flip(hi, lo))?;
+    Ok(flip(e, lo))
 }
 
 // Takes n of the looks that are left; false where there are fewer, and then takes none.
@@ -224,17 +209,17 @@ pub fn pay(w: &mut [u32], n: u32) -> bool
 }
 
 // What the cache has for three operands.
-pub fn entry(w: &[u32], f: u32, g: u32, h: u32) -> Hint
+pub fn entry(w: &[u32], f: u32, g: u32, h: u32) -> Option<u32>
     ensures { result ≡ S.entry_of (S.state_of w.now).cache f g h }
 {
     let i = bucket(w.len() / 16, f, g, h);
     if i < w.len() / 16 {
         let at = 4 * i + 4;
         if (w[at] == f) & (w[at + 1] == g) & (w[at + 2] == h) {
-            return Hint::Edge(w[at + 3]);
+            return Some(w[at + 3]);
         }
     }
-    Hint::Nothing
+    None
 }
 
 // Keeps the result for three operands, in place of what the cache has there.
@@ -255,11 +240,7 @@ pub fn keep(w: &mut [u32], f: u32, g: u32, h: u32, r: u32)
 fn clear(w: &mut [u32])
     ensures { w.new ≡ replicate (length w.old) 0 }
 {
-    let mut i = 0;
-    while i < w.len() {
-        w[i] = 0;
-        i += 1;
-    }
+    w.fill(0);
 }
 
 // A diagram with node 0 alone, whose variable is the greatest number, empty hash lists, an empty cache, and so many looks.

@@ -4,10 +4,10 @@ use mathlib.Core.Option.{none, some}
 use Prim.Native.Nat.{ℕ, zero, suc, ◌/◌, ◌≤◌, ◌<◌}
 use borrow.Author.Tests.{lt-ltb, le-ltb, le-leb, lt-leb}
 use Rattle.diagrams.specs.declared.Vertex.{Vertex}
-use Rattle.diagrams.specs.declared.Hint.{Hint}
-use Rattle.diagrams.specs.declared.Hint.TheVariants as hint
+use Rattle.std.specs.Prelude as code
+use Rattle.std.specs.Prelude.{Ok, Err}
 use Rattle.diagrams.specs.Words.{node_at, flip}
-use Rattle.diagrams.specs.States.{State, Outcome, outcome, and_then, Seen, looked_up, or_else, finished}
+use Rattle.diagrams.specs.States.{State, Outcome, outcome, and_then, Seen, looked_up, or_else, finished, Hint}
 use Rattle.diagrams.proofs.Follow.{then-full, then-edge}
 use Rattle.quantification.specs.Quantification.{Way, or_plain, from_halves, turn, no_turn, exists_within}
 
@@ -56,20 +56,20 @@ module _ (level : ℕ) (s : State) (e : ℕ) where
             ∙ ap (λ (y : Vertex). or_else (looked_up s e 0 1) (from_halves rec y e)) ev)
             ∙ sym (ap (λ (y : ℕ). exists_within level y s e) q)
 
-        pub within-full : record { state = t; hint = hint.Full } ≡ looked_up s e 0 1 → outcome t none ≡ exists_within level n s e
-        within-full i = looked hint.Full i (outcome t none) refl
+        pub within-full : record { state = t; hint = Err (record {}) } ≡ looked_up s e 0 1 → outcome t none ≡ exists_within level n s e
+        within-full i = looked (Err (record {})) i (outcome t none) refl
 
-        pub within-known : (r : ℕ) → record { state = t; hint = hint.Edge r } ≡ looked_up s e 0 1
+        pub within-known : (r : ℕ) → record { state = t; hint = Ok (code.Some r) } ≡ looked_up s e 0 1
             → outcome t (some r) ≡ exists_within level n s e
-        within-known r i = looked (hint.Edge r) i (outcome t (some r)) refl
+        within-known r i = looked (Ok (code.Some r)) i (outcome t (some r)) refl
 
-        module _ (i : record { state = t; hint = hint.Nothing } ≡ looked_up s e 0 1) (p : ℕ) (ep : p ≡ flip v.lo e) where
+        module _ (i : record { state = t; hint = Ok code.None } ≡ looked_up s e 0 1) (p : ℕ) (ep : p ≡ flip v.lo e) where
           abbrev rest : State → ℕ → Outcome
           rest u lo = and_then (rec u (flip v.hi e)) (λ y hi. finished y v.var lo hi e 0 1)
 
           halves : (o : Outcome) → o ≡ and_then (rec t p) rest → o ≡ exists_within level n s e
           unfolding from_halves
-          halves o h = looked hint.Nothing i o (h ∙ ap (λ (x : ℕ). and_then (rec t x) rest) ep)
+          halves o h = looked (Ok code.None) i o (h ∙ ap (λ (x : ℕ). and_then (rec t x) rest) ep)
 
           pub within_first : (u : State) → outcome u none ≡ rec t p → outcome u none ≡ exists_within level n s e
           within_first u h = halves (outcome u none) (then-full (rec t p) rest u h)

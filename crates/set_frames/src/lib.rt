@@ -7,7 +7,6 @@ ghost use Rattle.state_sets.specs.Sets as Z;
 ghost use Rattle.set_attempt.specs.Attempt as T;
 ghost use Rattle.set_frames.specs.Frames as F;
 
-use collection::Collected;
 use set_walk::Start;
 use state_sets::Shape;
 
@@ -87,8 +86,8 @@ fn start_again(
         Start::Least => Start::Least,
         Start::Nowhere => Start::Nowhere,
         Start::Full => match collection::collect(w, table) {
-            Collected::Full => Start::Full,
-            Collected::Kept => start(w, table, s, t, frees, base, bits),
+            Err(_) => Start::Full,
+            Ok(_) => start(w, table, s, t, frees, base, bits),
         },
     }
 }

@@ -7,7 +7,6 @@ ghost use Rattle.diagram_rows.specs.Words.{Prepared};
 ghost use Rattle.state_sets.specs.Sets as S;
 ghost use Rattle.set_stage.specs.Table as T;
 
-use collection::Collected;
 use layout::Layout;
 
 // Puts row r of a plan into the table; false where the diagram is full or an edge is absent.
@@ -50,8 +49,8 @@ fn put_row_again(
         return true;
     }
     match collection::collect(w, table) {
-        Collected::Full => false,
-        Collected::Kept => put_row(w, m, layout, b, plan, r, table),
+        Err(_) => false,
+        Ok(_) => put_row(w, m, layout, b, plan, r, table),
     }
 }
 

@@ -17,8 +17,7 @@ ghost use Rattle.set_stage.specs.Table.{with_reset, with_resets};
 ghost use Rattle.set_attempt.specs.Attempt as T;
 ghost use Rattle.set_table.specs.Room.{TableRoom};
 
-use collection::Collected;
-use diagrams::Made;
+use diagrams::Full;
 use layout::Layout;
 use state_sets::Shape;
 
@@ -97,44 +96,43 @@ pub fn are_distinct(xs: &[u32]) -> bool
 // ---- the edge of the start states
 
 // The states of e in which variable v is true, or false where c is odd.
-fn with_value(w: &mut [u32], e: u32, v: u32, c: u32) -> Made
+fn with_value(w: &mut [u32], e: u32, v: u32, c: u32) -> Result<u32, Full>
     ensures { D.left w.new result ≡ D.and_then (D.made (D.state_of w.old) v 0 1) (λ t x. C.both t e (W.flip x c)) }
 {
-    match diagrams::node(w, v, 0, 1) {
-        Made::Full => Made::Full,
-        Made::Edge(x) => conjunction::both(w, e, diagrams::flip(x, c)),
-    }
+    let x = diagrams::node(w, v, 0, 1)?;
+    conjunction::both(w, e, diagrams::flip(x, c))
 }
 
 // The states of e in which variable v, which is latch j of the file, has its start value.
-fn with_reset(w: &mut [u32], m: &[u32], layout: Layout, v: u32, j: usize, e: u32) -> Made
+fn with_reset(
+    w: &mut [u32],
+    m: &[u32],
+    layout: Layout,
+    v: u32,
+    j: usize,
+    e: u32,
+) -> Result<u32, Full>
     requires { Prepared m.now layout }
     ensures { D.left w.new result ≡ with_reset (circuit_in m.now) v j (D.state_of w.old) e }
 {
     if is_free(m, layout, j) {
-        return Made::Edge(e);
+        return Ok(e);
     }
     let value = reset_word(m, layout, j);
     with_value(w, e, v, 1 - value)
 }
 
 // The states in which every variable has its start value.
-fn with_resets(w: &mut [u32], m: &[u32], layout: Layout, latches: &[u32]) -> Made
+fn with_resets(w: &mut [u32], m: &[u32], layout: Layout, latches: &[u32]) -> Result<u32, Full>
     requires prepared { Prepared m.now layout }
     requires latches_len_bound { length latches.now ≤ 256 }
     ensures { D.left w.new result ≡ with_resets (circuit_in m.now) 0 latches.now (D.state_of w.old) 1 }
 {
     let mut e = 1;
-    let mut v = 0;
-    while v < latches.len() {
-        let made = with_reset(w, m, layout, v as u32, latches[v] as usize, e);
-        let Made::Edge(x) = made else {
-            return Made::Full;
-        };
-        e = x;
-        v += 1;
+    for v in 0..latches.len() {
+        e = with_reset(w, m, layout, v as u32, latches[v] as usize, e)?;
     }
-    Made::Edge(e)
+    Ok(e)
 }
 
 // ---- the table
@@ -159,8 +157,8 @@ fn put_start(
     };
     let at = state_sets::row_at(s, rows);
     match with_resets(w, m, layout, latches) {
-        Made::Full => false,
-        Made::Edge(e) => {
+        Err(_) => false,
+        Ok(e) => {
             table[at] = e;
             true
         }
@@ -185,8 +183,8 @@ fn put_start_again(
         return true;
     }
     match collection::collect(w, table) {
-        Collected::Full => false,
-        Collected::Kept => put_start(w, m, layout, latches, rows, table),
+        Err(_) => false,
+        Ok(_) => put_start(w, m, layout, latches, rows, table),
     }
 }
 

@@ -1,6 +1,6 @@
 -- The values of the free latches, one after the other. Assumes nothing.
 use mathlib.Core.Path.{◌≡◌, refl, sym, ap, ◌∙◌}
-use mathlib.Core.Bool.{Bool, true, false, cond}
+use mathlib.Core.Bool.{Bool, true, false, cond, false≢true}
 use mathlib.Core.List.{List, [], ◌∷◌}
 use mathlib.Core.Option.{Option, none, some}
 use Prim.Native.Nat.{ℕ, zero, suc, ◌+◌, ◌≤◌, ◌<◌}
@@ -11,7 +11,8 @@ use lib.Dec.{ltb, eqb}
 use lib.ListN.{length, get_or, set, drop, drop_of_length-le}
 use lib.Seq.{drop-cons}
 use Rattle.diagrams.specs.Words.{flip}
-use Rattle.diagrams.specs.States.{State, Outcome, outcome, made}
+use Rattle.std.specs.Prelude.{Ok, Err, IsErr}
+use Rattle.diagrams.specs.States.{State, state_of, Outcome, outcome, Made, made}
 use Rattle.diagrams.specs.Meaning.{value}
 use Rattle.diagrams.proofs.Follow.{then-full, then-edge}
 use Rattle.conjunction.specs.Conjunction.{both}
@@ -19,9 +20,14 @@ use Rattle.state_sets.specs.Sets.{starts_in}
 use Rattle.set_walk.specs.declared.Start.{Start}
 use Rattle.set_walk.specs.declared.Start.TheVariants as variants
 use Rattle.set_walk.specs.Walk.{bits_of}
-use Rattle.set_walk.specs.Start.{Picked, picked, without, pick_from, pick_one, pick_then, pick_all, Sought, sought, test_picked, seek_from, seek}
+use Rattle.set_walk.specs.Start.{Picked, picked, leaves, without, pick_from, pick_one, pick_then, pick_all, Sought, sought, test_picked, seek_from, seek}
 
 -- ---- the steps of the code
+
+-- the answer that `?` hands on
+pub full-leaves : (w : List ℕ) (r : Made) (bits : List ℕ) (p : Picked) → IsErr r → picked (state_of w) none bits ≡ p → leaves w r bits ≡ p
+full-leaves w (Ok e) bits p h q = absurd (false≢true h)
+full-leaves w (Err full) bits p h q = q
 
 module _ (e v : ℕ) (s : State) where
   pub without-none : (t : State) → outcome t none ≡ made s v 0 1 → outcome t none ≡ without e v s

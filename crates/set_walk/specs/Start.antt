@@ -6,8 +6,7 @@ use Rattle.aiger.specs.Frames.{free_bit}
 use Rattle.machine.specs.Machine.{Machine}
 use Rattle.diagrams.specs.Meaning.{Assignment, value}
 use Rattle.diagrams.specs.Words.{flip}
-use Rattle.diagrams.specs.States.{State, Outcome, state_of, edge_of, and_then, made}
-use Rattle.diagrams.specs.declared.Made.{Made}
+use Rattle.diagrams.specs.States.{State, Outcome, state_of, edge_of, Made, and_then, made}
 use Rattle.conjunction.specs.Conjunction.{both}
 use Rattle.state_sets.specs.Sets.{starts_in}
 use Rattle.set_walk.specs.declared.Start.{Start}

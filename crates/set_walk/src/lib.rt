@@ -12,7 +12,7 @@ ghost use Rattle.state_sets.specs.Shape.{Fits, row_at};
 ghost use Rattle.set_walk.specs.Walk as W;
 ghost use Rattle.set_walk.specs.Start as S;
 
-use diagrams::Made;
+use diagrams::Full;
 use state_sets::Shape;
 
 // The least start state of a set was found; the set has none; or it is not known.
@@ -184,49 +184,38 @@ pub fn walk(
 }
 
 // The states of e in which variable v is false.
-fn without(w: &mut [u32], e: u32, v: u32) -> Made
+fn without(w: &mut [u32], e: u32, v: u32) -> Result<u32, Full>
     ensures { D.left w.new result ≡ S.without e v (D.state_of w.old) }
 {
-    match diagrams::node(w, v, 0, 1) {
-        Made::Full => Made::Full,
-        Made::Edge(x) => conjunction::both(w, e, diagrams::flip(x, 1)),
-    }
+    let x = diagrams::node(w, v, 0, 1)?;
+    conjunction::both(w, e, diagrams::flip(x, 1))
 }
 
 // The value of a free latch: false where that leaves a state of e, else true. The edge is that of the states that are left.
-fn pick(w: &mut [u32], e: u32, v: u32, bits: &mut [u32]) -> Made
+fn pick(w: &mut [u32], e: u32, v: u32, bits: &mut [u32]) -> Result<u32, Full>
     ensures { S.leaves w.new result bits.new ≡ S.pick_one e v bits.old (D.state_of w.old) }
 {
     let at = v as usize;
     if bits.len() <= at {
-        return Made::Edge(e);
+        return Ok(e);
     }
-    match without(w, e, v) {
-        Made::Full => Made::Full,
-        Made::Edge(d) => {
-            if d == 0 {
-                bits[at] = 1;
-                return Made::Edge(e);
-            }
-            Made::Edge(d)
-        }
+    let d = without(w, e, v)?;
+    if d == 0 {
+        bits[at] = 1;
+        return Ok(e);
     }
+    Ok(d)
 }
 
 // The values of the free latches, in their order.
-fn pick_all(w: &mut [u32], e: u32, frees: &[u32], bits: &mut [u32]) -> Made
+fn pick_all(w: &mut [u32], e: u32, frees: &[u32], bits: &mut [u32]) -> Result<u32, Full>
     ensures { S.leaves w.new result bits.new ≡ S.pick_all frees.now (D.state_of w.old) e bits.old }
 {
     let mut from = e;
-    let mut u = 0;
-    while u < frees.len() {
-        let Made::Edge(d) = pick(w, from, frees[u], bits) else {
-            return Made::Full;
-        };
-        from = d;
-        u += 1;
+    for v in frees {
+        from = pick(w, from, *v, bits)?;
     }
-    Made::Edge(from)
+    Ok(from)
 }
 
 // The least start state of set t. The words have the start values of the latches that are not free, and 0 for those that are; the free ones
@@ -246,13 +235,13 @@ pub fn least_start(
     ensures { S.sought (D.state_of w.new) result bits.new
         ≡ S.seek s.vars s.rows t frees.now table.now bits.old (D.state_of w.old) }
 {
-    let Made::Edge(e) = state_sets::starts_in(w, table, s, t) else {
+    let Ok(e) = state_sets::starts_in(w, table, s, t) else {
         return Start::Full;
     };
     if e == 0 {
         return Start::Nowhere;
     }
-    let Made::Edge(_) = pick_all(w, e, frees, bits) else {
+    let Ok(_) = pick_all(w, e, frees, bits) else {
         return Start::Full;
     };
     if value_of(w, table[t], bits) {

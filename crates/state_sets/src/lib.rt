@@ -8,8 +8,7 @@ ghost use Rattle.diagrams.specs.States as D;
 ghost use Rattle.state_sets.specs.Shape.{Fits, row_at};
 ghost use Rattle.state_sets.specs.Sets as S;
 
-use collection::Collected;
-use diagrams::Made;
+use diagrams::Full;
 
 // How many variables states have, and how many rows.
 #[derive(Clone, Copy)]
@@ -27,7 +26,7 @@ pub fn row_at(s: Shape, r: usize) -> usize
 }
 
 // The states that row r leads into set `last`, and that are in no set.
-fn before(w: &mut [u32], table: &[u32], s: Shape, last: usize, r: usize) -> Made
+fn before(w: &mut [u32], table: &[u32], s: Shape, last: usize, r: usize) -> Result<u32, Full>
     requires fits { Fits s (length table.now) }
     requires last_bound { (last < 256) × (r < s.rows) }
     ensures { D.left w.new result ≡ S.before s.vars last r table.now (D.state_of w.old) }
@@ -37,39 +36,33 @@ fn before(w: &mut [u32], table: &[u32], s: Shape, last: usize, r: usize) -> Made
     let set = table[last];
     let allowed = table[to];
     let others = diagrams::flip(table[256], 1);
-    match substitution::substituted(w, set, &table[from..to], r as u32) {
-        Made::Full => Made::Full,
-        Made::Edge(x) => match conjunction::both(w, allowed, x) {
-            Made::Full => Made::Full,
-            Made::Edge(y) => conjunction::both(w, others, y),
-        },
-    }
+    let x = substitution::substituted(w, set, &table[from..to], r as u32)?;
+    let y = conjunction::both(w, allowed, x)?;
+    conjunction::both(w, others, y)
 }
 
 // What row r adds to set `next`: to set 0 the states that it hits in.
-fn row_part(w: &mut [u32], table: &[u32], s: Shape, next: usize, r: usize) -> Made
+fn row_part(w: &mut [u32], table: &[u32], s: Shape, next: usize, r: usize) -> Result<u32, Full>
     requires fits { Fits s (length table.now) }
     requires next_bound { (next < 256) × (r < s.rows) }
     ensures { D.left w.new result ≡ S.row_part s.vars next r table.now (D.state_of w.old) }
 {
     if next == 0 {
         let at = row_at(s, r) + s.vars + 1;
-        return Made::Edge(table[at]);
+        return Ok(table[at]);
     }
     before(w, table, s, next - 1, r)
 }
 
 // The part of set `next` that is made, with that of row r.
-fn with_row(w: &mut [u32], table: &[u32], s: Shape, next: usize, r: usize) -> Made
+fn with_row(w: &mut [u32], table: &[u32], s: Shape, next: usize, r: usize) -> Result<u32, Full>
     requires fits { Fits s (length table.now) }
     requires next_bound { (next < 256) × (r < s.rows) }
     ensures { D.left w.new result ≡ S.with_row s.vars next r table.now (D.state_of w.old) }
 {
     let part = table[257];
-    match row_part(w, table, s, next, r) {
-        Made::Full => Made::Full,
-        Made::Edge(x) => conjunction::either(w, part, x),
-    }
+    let x = row_part(w, table, s, next, r)?;
+    conjunction::either(w, part, x)
 }
 
 // Stores that part; false where the diagram is full.
@@ -79,8 +72,8 @@ fn add_row(w: &mut [u32], table: &mut [u32], s: Shape, next: usize, r: usize) ->
     ensures { S.left w.new table.new result ≡ S.added_row s.vars next r (S.sets_of w.old table.old) }
 {
     match with_row(w, table, s, next, r) {
-        Made::Full => false,
-        Made::Edge(e) => {
+        Err(_) => false,
+        Ok(e) => {
             table[257] = e;
             true
         }
@@ -95,8 +88,8 @@ fn close(w: &mut [u32], table: &mut [u32], next: usize) -> bool
     let all = table[256];
     let part = table[257];
     match conjunction::either(w, all, part) {
-        Made::Full => false,
-        Made::Edge(e) => {
+        Err(_) => false,
+        Ok(e) => {
             table[256] = e;
             table[257] = 0;
             table[next] = part;
@@ -129,8 +122,8 @@ fn step_again(w: &mut [u32], table: &mut [u32], s: Shape, next: usize, r: usize)
         return true;
     }
     match collection::collect(w, table) {
-        Collected::Full => false,
-        Collected::Kept => step(w, table, s, next, r),
+        Err(_) => false,
+        Ok(_) => step(w, table, s, next, r),
     }
 }
 
@@ -153,7 +146,7 @@ pub fn advance(w: &mut [u32], table: &mut [u32], s: Shape, next: usize) -> bool
 }
 
 // The states of set t that are start states.
-pub fn starts_in(w: &mut [u32], table: &[u32], s: Shape, t: usize) -> Made
+pub fn starts_in(w: &mut [u32], table: &[u32], s: Shape, t: usize) -> Result<u32, Full>
     requires fits { Fits s (length table.now) }
     requires t_bound { t < 256 }
     ensures { D.left w.new result ≡ S.starts_in s.vars s.rows t table.now (D.state_of w.old) }

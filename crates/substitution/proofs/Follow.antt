@@ -6,10 +6,10 @@ use Prim.Native.Nat.{ℕ, zero, suc, ◌/◌, ◌≤◌, ◌<◌}
 use borrow.Author.Tests.{lt-ltb, le-ltb}
 use lib.ListN.{get_or}
 use Rattle.diagrams.specs.declared.Vertex.{Vertex}
-use Rattle.diagrams.specs.declared.Hint.TheVariants as hint
-use Rattle.diagrams.specs.declared.Hint.{Hint}
+use Rattle.std.specs.Prelude as code
+use Rattle.std.specs.Prelude.{Ok, Err}
 use Rattle.diagrams.specs.Words.{node_at, flip}
-use Rattle.diagrams.specs.States.{State, Outcome, outcome, and_then, Seen, looked_up, or_else, keeping}
+use Rattle.diagrams.specs.States.{State, Outcome, outcome, and_then, Seen, looked_up, or_else, keeping, Hint}
 use Rattle.diagrams.proofs.Follow.{then-full, then-edge, remembered-full, remembered-edge}
 use Rattle.conjunction.specs.Conjunction.{both, either}
 use Rattle.substitution.specs.Substitution.{whole, choice, half, mark_of, complement_if, finished_choice}
@@ -102,20 +102,20 @@ module _ (by : List ℕ) (tag : ℕ) (s : State) (e : ℕ) where
           ∙ ap (λ (y : Seen). complement_if e (or_else y (from_halves rec tag v x (flip e e)))) (i ∙ ap₂ (λ (y z : ℕ). looked_up s y z 1) ef ek)
           ∙ sym (rw (le-ltb x 2 l)))
 
-      pub within-full : record { state = t; hint = hint.Full } ≡ looked_up s f k 1 → outcome t none ≡ substituted_within by tag n s e
-      within-full i = looked hint.Full i (outcome t none) refl
+      pub within-full : record { state = t; hint = Err (record {}) } ≡ looked_up s f k 1 → outcome t none ≡ substituted_within by tag n s e
+      within-full i = looked (Err (record {})) i (outcome t none) refl
 
-      pub within-known : (r d : ℕ) → record { state = t; hint = hint.Edge r } ≡ looked_up s f k 1 → d ≡ flip r e
+      pub within-known : (r d : ℕ) → record { state = t; hint = Ok (code.Some r) } ≡ looked_up s f k 1 → d ≡ flip r e
           → outcome t (some d) ≡ substituted_within by tag n s e
-      within-known r d i ed = looked (hint.Edge r) i (outcome t (some d)) (ap (λ (y : ℕ). outcome t (some y)) ed)
+      within-known r d i ed = looked (Ok (code.Some r)) i (outcome t (some d)) (ap (λ (y : ℕ). outcome t (some y)) ed)
 
-      module _ (i : record { state = t; hint = hint.Nothing } ≡ looked_up s f k 1) where
+      module _ (i : record { state = t; hint = Ok code.None } ≡ looked_up s f k 1) where
         abbrev low : State → ℕ → Outcome
         low u hi = and_then (rec u v.lo) (λ y lo. finished_choice y x hi lo (flip e e) tag)
 
         halves : (o p : Outcome) → o ≡ complement_if e p → p ≡ and_then (rec t v.hi) low → o ≡ substituted_within by tag n s e
         unfolding from_halves
-        halves o p j h = looked hint.Nothing i o (j ∙ ap (complement_if e) h)
+        halves o p j h = looked (Ok code.None) i o (j ∙ ap (complement_if e) h)
 
         pub within_first : (u : State) → outcome u none ≡ rec t v.hi → outcome u none ≡ substituted_within by tag n s e
         within_first u h = halves (outcome u none) (outcome u none) refl (then-full (rec t v.hi) low u h)

@@ -7,6 +7,8 @@ ghost use Rattle.diagrams.specs.Words as W;
 ghost use Rattle.diagrams.specs.States as S;
 ghost use Rattle.substitution.specs.Substitution as T;
 
+use diagrams::Full;
+
 // The arm g of a choice where f is true.
 fn arm(f: u32, g: u32) -> u32
     ensures { result ≡ T.arm f g }
@@ -21,24 +23,20 @@ fn arm(f: u32, g: u32) -> u32
 }
 
 // If f then g else h, by three conjunctions.
-fn whole(w: &mut [u32], f: u32, g: u32, h: u32) -> diagrams::Made
+fn whole(w: &mut [u32], f: u32, g: u32, h: u32) -> Result<u32, Full>
     ensures { S.left w.new result ≡ T.whole (S.state_of w.old) f g h }
 {
-    match conjunction::both(w, f, g) {
-        diagrams::Made::Full => diagrams::Made::Full,
-        diagrams::Made::Edge(p) => match conjunction::both(w, diagrams::flip(f, 1), h) {
-            diagrams::Made::Full => diagrams::Made::Full,
-            diagrams::Made::Edge(q) => conjunction::either(w, p, q),
-        },
-    }
+    let p = conjunction::both(w, f, g)?;
+    let q = conjunction::both(w, diagrams::flip(f, 1), h)?;
+    conjunction::either(w, p, q)
 }
 
 // If f then g else h, where f is not constant: one conjunction where an arm is constant.
-fn of_arms(w: &mut [u32], f: u32, g: u32, h: u32) -> diagrams::Made
+fn of_arms(w: &mut [u32], f: u32, g: u32, h: u32) -> Result<u32, Full>
     ensures { S.left w.new result ≡ T.of_arms (S.state_of w.old) f g h }
 {
     if g == h {
-        return diagrams::Made::Edge(g);
+        return Ok(g);
     }
     if g == 1 {
         return conjunction::either(w, f, h);
@@ -56,17 +54,17 @@ fn of_arms(w: &mut [u32], f: u32, g: u32, h: u32) -> diagrams::Made
 }
 
 // If f then g else h.
-pub fn choice(w: &mut [u32], f: u32, g: u32, h: u32) -> diagrams::Made
+pub fn choice(w: &mut [u32], f: u32, g: u32, h: u32) -> Result<u32, Full>
     ensures { S.left w.new result ≡ T.choice (S.state_of w.old) f g h }
 {
     if g == h {
-        return diagrams::Made::Edge(g);
+        return Ok(g);
     }
     if f == 1 {
-        return diagrams::Made::Edge(g);
+        return Ok(g);
     }
     if f == 0 {
-        return diagrams::Made::Edge(h);
+        return Ok(h);
     }
     of_arms(w, f, arm(f, g), arm(diagrams::flip(f, 1), h))
 }
@@ -97,49 +95,40 @@ fn mark(tag: u32) -> u32
 }
 
 // If x then hi else lo, kept as the result for edge e without its complement; then the complement, if e is one.
-fn finish_choice(w: &mut [u32], x: u32, hi: u32, lo: u32, e: u32, tag: u32) -> diagrams::Made
+fn finish_choice(w: &mut [u32], x: u32, hi: u32, lo: u32, e: u32, tag: u32) -> Result<u32, Full>
     ensures { S.left w.new result
         ≡ T.complement_if e (T.finished_choice (S.state_of w.old) x hi lo (W.flip e e) tag) }
 {
-    match choice(w, x, hi, lo) {
-        diagrams::Made::Full => diagrams::Made::Full,
-        diagrams::Made::Edge(r) => {
-            diagrams::keep(w, diagrams::flip(e, e), mark(tag), 1, r);
-            diagrams::Made::Edge(diagrams::flip(r, e))
-        }
-    }
+    let r = choice(w, x, hi, lo)?;
+    diagrams::keep(w, diagrams::flip(e, e), mark(tag), 1, r);
+    Ok(diagrams::flip(r, e))
 }
 
 // The substitution in so many nested turns.
-fn substituted_within(w: &mut [u32], e: u32, by: &[u32], tag: u32, turns: u32) -> diagrams::Made
+fn substituted_within(w: &mut [u32], e: u32, by: &[u32], tag: u32, turns: u32) -> Result<u32, Full>
     ensures { S.left w.new result ≡ T.substituted_within by.now tag turns (S.state_of w.old) e }
 {
     if e < 2 {
-        return diagrams::Made::Edge(e);
+        return Ok(e);
     }
     if turns == 0 {
-        return diagrams::Made::Full;
+        return Err(Full);
     }
     let n = diagrams::read(w, e / 2);
     let x = edge_at(by, n.var);
     if x < 2 {
         return substituted_within(w, half(n, x, e), by, tag, turns - 1);
     }
-    match conjunction::look_up(w, diagrams::flip(e, e), mark(tag), 1) {
-        diagrams::Hint::Full => diagrams::Made::Full,
-        diagrams::Hint::Edge(r) => diagrams::Made::Edge(diagrams::flip(r, e)),
-        diagrams::Hint::Nothing => match substituted_within(w, n.hi, by, tag, turns - 1) {
-            diagrams::Made::Full => diagrams::Made::Full,
-            diagrams::Made::Edge(hi) => match substituted_within(w, n.lo, by, tag, turns - 1) {
-                diagrams::Made::Full => diagrams::Made::Full,
-                diagrams::Made::Edge(lo) => finish_choice(w, x, hi, lo, e, tag),
-            },
-        },
+    if let Some(r) = conjunction::look_up(w, diagrams::flip(e, e), mark(tag), 1)? {
+        return Ok(diagrams::flip(r, e));
     }
+    let hi = substituted_within(w, n.hi, by, tag, turns - 1)?;
+    let lo = substituted_within(w, n.lo, by, tag, turns - 1)?;
+    finish_choice(w, x, hi, lo, e, tag)
 }
 
 // Edge e with the edge by[v] in place of each variable v. Equal tags mean equal vectors, until the cache is cleared.
-pub fn substituted(w: &mut [u32], e: u32, by: &[u32], tag: u32) -> diagrams::Made
+pub fn substituted(w: &mut [u32], e: u32, by: &[u32], tag: u32) -> Result<u32, Full>
     ensures { S.left w.new result ≡ T.substituted by.now tag (S.state_of w.old) e }
 {
     substituted_within(w, e, by, tag, 1280)

@@ -43,10 +43,10 @@ returns-2 c =
     let l = c.single_at-bad.ensures ∙ ap literal (bad-read c.requires.0 a.b) in
     record {
       left =
-          end-second (circuit_in a.m.now) a.b a.latches.now (state_of a.w.now) a.edges.now (state_of c.constrain-made.new.w) c.in-Edge.con
-          (ap (left c.constrain-made.new.w) (sym c.in-Edge.is) ∙ c.constrain-made.ensures) (state_of c.with_literal-last.new.w)
+          end-second (circuit_in a.m.now) a.b a.latches.now (state_of a.w.now) a.edges.now (state_of c.constrain-made.new.w) c.in-Ok.con
+          (ap (left c.constrain-made.new.w) (sym c.in-Ok.is) ∙ c.constrain-made.ensures) (state_of c.with_literal-last.new.w)
           (ap (left c.with_literal-last.new.w) (sym c.in_default-last.is) ∙ c.with_literal-last.ensures
-          ∙ ap (λ (x : Lit). with_literal a.edges.now x (state_of c.constrain-made.new.w) c.in-Edge.con) l);
+          ∙ ap (λ (x : Lit). with_literal a.edges.now x (state_of c.constrain-made.new.w) c.in-Ok.con) l);
       stays = λ _. refl;
     }
 
@@ -62,10 +62,10 @@ returns-3 c =
     let l = c.single_at-bad.ensures ∙ ap literal (bad-read c.requires.0 a.b) in
     record {
       left =
-          end-words (circuit_in a.m.now) a.b a.latches.now (state_of a.w.now) a.edges.now (state_of c.constrain-made.new.w) c.in-Edge.con
-          (ap (left c.constrain-made.new.w) (sym c.in-Edge.is) ∙ c.constrain-made.ensures) (state_of c.with_literal-last.new.w) c.in-Edge-last.hit
-          (ap (left c.with_literal-last.new.w) (sym c.in-Edge-last.is) ∙ c.with_literal-last.ensures ∙ ap (λ (x : Lit). with_literal a.edges.now x (state_of c.constrain-made.new.w) c.in-Edge.con) l) none
-          (words-absent (circuit_in a.m.now) a.latches.now a.edges.now c.in-Edge.con c.in-Edge-last.hit
+          end-words (circuit_in a.m.now) a.b a.latches.now (state_of a.w.now) a.edges.now (state_of c.constrain-made.new.w) c.in-Ok.con
+          (ap (left c.constrain-made.new.w) (sym c.in-Ok.is) ∙ c.constrain-made.ensures) (state_of c.with_literal-last.new.w) c.in-Ok-last.hit
+          (ap (left c.with_literal-last.new.w) (sym c.in-Ok-last.is) ∙ c.with_literal-last.ensures ∙ ap (λ (x : Lit). with_literal a.edges.now x (state_of c.constrain-made.new.w) c.in-Ok.con) l) none
+          (words-absent (circuit_in a.m.now) a.latches.now a.edges.now c.in-Ok.con c.in-Ok-last.hit
           (sym c.if-not-are_present.true ∙ c.are_present.ensures));
       stays = λ _. refl;
     }
@@ -85,11 +85,11 @@ returns-4 c =
     let l = c.single_at-bad.ensures ∙ ap literal (bad-read c.requires.0 a.b) in
     record {
       left =
-          end-words (circuit_in a.m.now) a.b a.latches.now (state_of a.w.now) a.edges.now (state_of c.constrain-made.new.w) c.in-Edge.con
-          (ap (left c.constrain-made.new.w) (sym c.in-Edge.is) ∙ c.constrain-made.ensures) (state_of c.with_literal-last.new.w) c.in-Edge-last.hit
-          (ap (left c.with_literal-last.new.w) (sym c.in-Edge-last.is) ∙ c.with_literal-last.ensures ∙ ap (λ (x : Lit). with_literal a.edges.now x (state_of c.constrain-made.new.w) c.in-Edge.con) l)
+          end-words (circuit_in a.m.now) a.b a.latches.now (state_of a.w.now) a.edges.now (state_of c.constrain-made.new.w) c.in-Ok.con
+          (ap (left c.constrain-made.new.w) (sym c.in-Ok.is) ∙ c.constrain-made.ensures) (state_of c.with_literal-last.new.w) c.in-Ok-last.hit
+          (ap (left c.with_literal-last.new.w) (sym c.in-Ok-last.is) ∙ c.with_literal-last.ensures ∙ ap (λ (x : Lit). with_literal a.edges.now x (state_of c.constrain-made.new.w) c.in-Ok.con) l)
           (some c.write_row.new.row)
-          (words-there (circuit_in a.m.now) a.latches.now a.edges.now c.in-Edge.con c.in-Edge-last.hit c.write_row.new.row
+          (words-there (circuit_in a.m.now) a.latches.now a.edges.now c.in-Ok.con c.in-Ok-last.hit c.write_row.new.row
           (sym c.if-not-are_present.false ∙ c.are_present.ensures) c.write_row.ensures);
       stays = λ t. absurd (let z : ◌≡◌ {A = ℕ} 0 1 = cc in omega arith);
     }

@@ -4,8 +4,7 @@ use mathlib.Core.Bool.{Bool, cond}
 use Prim.Native.Nat.{ℕ, ◌+◌, ◌*◌}
 use borrow.Author.Rules.{rules}
 use lib.ListN.{get_or}
-use Rattle.diagrams.specs.declared.Hint.{Hint}
-use Rattle.diagrams.specs.declared.Hint.TheVariants as hint-variants
+use Rattle.std.specs.Prelude as code
 use Rattle.diagrams.proofs.Stores.{entry_in, entry-out}
 use Rattle.diagrams.proofs.entry.Statement.{statement}
 use Rattle.diagrams.proofs.entry.Tie as tie
@@ -16,7 +15,7 @@ returns c =
     sym
     (entry_in a.w.now a.f a.g a.h c.bucket-i.result (4 * c.bucket-i.result + 4) c.bucket-i.ensures.0 refl
     c.if-i-w.true
-    ∙ ap (λ (t : Bool). cond t (hint-variants.Edge (get_or a.w.now (4 * c.bucket-i.result + 4 + 3) 0)) hint-variants.Nothing)
+    ∙ ap (λ (t : Bool). cond t (code.Some (get_or a.w.now (4 * c.bucket-i.result + 4 + 3) 0)) code.None)
     c.if-w-at.true)
 
 returns-2 : tie.Need-returns-else-w-at
@@ -25,7 +24,7 @@ returns-2 c =
     sym
     (entry_in a.w.now a.f a.g a.h c.bucket-i.result (4 * c.bucket-i.result + 4) c.bucket-i.ensures.0 refl
     c.if-i-w.true
-    ∙ ap (λ (t : Bool). cond t (hint-variants.Edge (get_or a.w.now (4 * c.bucket-i.result + 4 + 3) 0)) hint-variants.Nothing) c.if-w-at.false)
+    ∙ ap (λ (t : Bool). cond t (code.Some (get_or a.w.now (4 * c.bucket-i.result + 4 + 3) 0)) code.None) c.if-w-at.false)
 
 returns-3 : tie.Need-returns-else-i-w
 returns-3 c =

@@ -4,7 +4,6 @@ use borrow.Author.Rules.{rules}
 use lib.ListN.{length}
 use Rattle.diagrams.specs.States.{state_of}
 use Rattle.collection.specs.Collecting as C
-use Rattle.collection.specs.declared.Collected.{Collected}
 use Rattle.state_sets.specs.Sets.{sets_of}
 use Rattle.set_walk.specs.declared.Start.{Start}
 use Rattle.set_frames.specs.Frames.{setup_in, seen}
@@ -15,7 +14,7 @@ use Rattle.set_frames.proofs.start_again.Tie as tie
 start-requires : tie.Need-start-requires
 start-requires c κs = c.requires
 
-start-requires-2 : tie.Need-start-requires-in-Kept
+start-requires-2 : tie.Need-start-requires-in-Ok
 start-requires-2 c κs =
     let a = c.args in
     let p = c.requires in
@@ -23,7 +22,7 @@ start-requires-2 c κs =
       stands-again a.s a.frees.now a.base.now p.1.0.rows a.t (sets_of a.w.now a.table.now)
           (sets_of c.start.new.w a.table.now) c.start.result c.start.new.bits (state_of c.collect.new.w) c.collect.new.roots p.0
           c.start.ensures
-          (ap (λ (r : Collected). C.collection (state_of c.collect.new.w) c.collect.new.roots (C.is_kept r)) (sym c.in-Kept.is)
+          (ap (λ (r : C.Collected). C.collection (state_of c.collect.new.w) c.collect.new.roots (C.is_kept r)) (sym c.in-Ok.is)
           ∙ c.collect.ensures),
       (rw e p.1.0, (c.start.auto.bits ∙ p.1.1.0, p.1.1.1)),
     )
@@ -62,45 +61,45 @@ returns-2 c =
     again-nowhere (setup_in a.s a.frees.now a.base.now) a.t (sets_of a.w.now a.table.now) y b
     (ap (λ (r : Start). seen y r b) (sym c.in-Nowhere.is) ∙ c.start.ensures)
 
-same-length-7 : tie.Need-shape_of-w-in-Full-collect
+same-length-7 : tie.Need-shape_of-w-in-Err
 same-length-7 c = c.collect.auto.w ∙ c.start.auto.w
 
-same-length-8 : tie.Need-shape_of-table-in-Full-collect
+same-length-8 : tie.Need-shape_of-table-in-Err
 same-length-8 c = c.collect.auto.roots
 
-same-length-9 : tie.Need-shape_of-bits-in-Full-collect
+same-length-9 : tie.Need-shape_of-bits-in-Err
 same-length-9 c = c.start.auto.bits
 
-returns-3 : tie.Need-returns-in-Full-collect
+returns-3 : tie.Need-returns-in-Err
 returns-3 c =
     let a = c.args in
     let y = sets_of c.start.new.w a.table.now in
     let b = c.start.new.bits in
     again-out (setup_in a.s a.frees.now a.base.now) a.t (sets_of a.w.now a.table.now) y b (state_of c.collect.new.w) c.collect.new.roots
     (ap (λ (r : Start). seen y r b) (sym c.in-Full.is) ∙ c.start.ensures)
-    (ap (λ (r : Collected). C.collection (state_of c.collect.new.w) c.collect.new.roots (C.is_kept r)) (sym c.in-Full-collect.is)
+    (ap (λ (r : C.Collected). C.collection (state_of c.collect.new.w) c.collect.new.roots (C.is_kept r)) (sym c.in-Err.is)
     ∙ c.collect.ensures)
 
-same-length-10 : tie.Need-shape_of-w-in-Kept
-same-length-10 c = c.start-in-Kept.auto.w ∙ c.collect.auto.w ∙ c.start.auto.w
+same-length-10 : tie.Need-shape_of-w-in-Ok
+same-length-10 c = c.start-in-Ok.auto.w ∙ c.collect.auto.w ∙ c.start.auto.w
 
-same-length-11 : tie.Need-shape_of-table-in-Kept
+same-length-11 : tie.Need-shape_of-table-in-Ok
 same-length-11 c = c.collect.auto.roots
 
-same-length-12 : tie.Need-shape_of-bits-in-Kept
-same-length-12 c = c.start-in-Kept.auto.bits ∙ c.start.auto.bits
+same-length-12 : tie.Need-shape_of-bits-in-Ok
+same-length-12 c = c.start-in-Ok.auto.bits ∙ c.start.auto.bits
 
-returns-4 : tie.Need-returns-in-Kept
+returns-4 : tie.Need-returns-in-Ok
 returns-4 c =
     let a = c.args in
     let y = sets_of c.start.new.w a.table.now in
     let b = c.start.new.bits in
     again-more (setup_in a.s a.frees.now a.base.now) a.t (sets_of a.w.now a.table.now) y b (state_of c.collect.new.w) c.collect.new.roots
-    (seen (sets_of c.start-in-Kept.new.w c.collect.new.roots) c.start-in-Kept.result c.start-in-Kept.new.bits)
+    (seen (sets_of c.start-in-Ok.new.w c.collect.new.roots) c.start-in-Ok.result c.start-in-Ok.new.bits)
     (ap (λ (r : Start). seen y r b) (sym c.in-Full.is) ∙ c.start.ensures)
-    (ap (λ (r : Collected). C.collection (state_of c.collect.new.w) c.collect.new.roots (C.is_kept r)) (sym c.in-Kept.is)
+    (ap (λ (r : C.Collected). C.collection (state_of c.collect.new.w) c.collect.new.roots (C.is_kept r)) (sym c.in-Ok.is)
     ∙ c.collect.ensures)
-    c.start-in-Kept.ensures
+    c.start-in-Ok.ensures
 
 pub start_again_spec : {M : Type 1} → statement M
 start_again_spec =

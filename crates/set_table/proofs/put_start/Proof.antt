@@ -33,23 +33,23 @@ slice-write-table c =
           (omega arith) c.requires.1.2,
     )
 
-same_length : tie.Need-shape_of-w-in-Full
+same_length : tie.Need-shape_of-w-in-Err
 same_length c = c.with_resets.auto.w
 
-returns : tie.Need-returns-in-Full
+returns : tie.Need-returns-in-Err
 returns c =
     let a = c.args in
     start_none (circuit_in a.m.now) a.latches.now a.rows a.table.now (state_of a.w.now) (state_of c.with_resets.new.w)
-    (ap (left c.with_resets.new.w) (sym c.in-Full.is) ∙ c.with_resets.ensures)
+    (ap (left c.with_resets.new.w) (sym c.in-Err.is) ∙ c.with_resets.ensures)
 
-same-length-2 : tie.Need-shape_of-w-in-Edge
+same-length-2 : tie.Need-shape_of-w-in-Ok
 same-length-2 c = c.with_resets.auto.w
 
-returns-2 : tie.Need-returns-in-Edge
+returns-2 : tie.Need-returns-in-Ok
 returns-2 c =
     let a = c.args in
     start-edge (circuit_in a.m.now) a.latches.now a.rows a.table.now (state_of a.w.now) c.row_at-at.result
-    c.row_at-at.ensures (state_of c.with_resets.new.w) c.in-Edge.e (ap (left c.with_resets.new.w) (sym c.in-Edge.is) ∙ c.with_resets.ensures)
+    c.row_at-at.ensures (state_of c.with_resets.new.w) c.in-Ok.e (ap (left c.with_resets.new.w) (sym c.in-Ok.is) ∙ c.with_resets.ensures)
 
 pub put_start_spec : {M : Type 1} → statement M
 put_start_spec =

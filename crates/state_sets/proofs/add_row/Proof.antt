@@ -15,26 +15,26 @@ with-row-requires c κs = (c.requires.0, c.requires.1)
 slice-write-table : tie.Need-bounds-table-257
 slice-write-table c = omega (arith, c.requires.0.room)
 
-same_length : tie.Need-shape_of-w-in-Full
+same_length : tie.Need-shape_of-w-in-Err
 same_length c = c.with_row.auto.w
 
-same-length-2 : tie.Need-shape_of-table-in-Full
+same-length-2 : tie.Need-shape_of-table-in-Err
 same-length-2 c = refl
 
-returns : tie.Need-returns-in-Full
+returns : tie.Need-returns-in-Err
 returns c =
     let a = c.args in
     added_none a.s.vars a.next a.r a.table.now (state_of a.w.now) (state_of c.with_row.new.w)
-    (ap (left c.with_row.new.w) (sym c.in-Full.is) ∙ c.with_row.ensures)
+    (ap (left c.with_row.new.w) (sym c.in-Err.is) ∙ c.with_row.ensures)
 
-same-length-3 : tie.Need-shape_of-w-in-Edge
+same-length-3 : tie.Need-shape_of-w-in-Ok
 same-length-3 c = c.with_row.auto.w
 
-returns-2 : tie.Need-returns-in-Edge
+returns-2 : tie.Need-returns-in-Ok
 returns-2 c =
     let a = c.args in
-    added-edge a.s.vars a.next a.r a.table.now (state_of a.w.now) (state_of c.with_row.new.w) c.in-Edge.e
-    (ap (left c.with_row.new.w) (sym c.in-Edge.is) ∙ c.with_row.ensures)
+    added-edge a.s.vars a.next a.r a.table.now (state_of a.w.now) (state_of c.with_row.new.w) c.in-Ok.e
+    (ap (left c.with_row.new.w) (sym c.in-Ok.is) ∙ c.with_row.ensures)
 
 pub add_row_spec : {M : Type 1} → statement M
 add_row_spec =

@@ -13,23 +13,23 @@ use Rattle.state_sets.proofs.close.Tie as tie
 slice-write-table-3 : tie.Need-bounds-table-next
 slice-write-table-3 c = simp length-set (omega (arith, c.requires))
 
-same_length : tie.Need-shape_of-w-in-Full
+same_length : tie.Need-shape_of-w-in-Err
 same_length c = c.either.auto.w
 
-returns : tie.Need-returns-in-Full
+returns : tie.Need-returns-in-Err
 returns c =
     let a = c.args in
     closed_none a.next a.table.now (state_of a.w.now) (state_of c.either.new.w)
-    (ap (left c.either.new.w) (sym c.in-Full.is) ∙ c.either.ensures)
+    (ap (left c.either.new.w) (sym c.in-Err.is) ∙ c.either.ensures)
 
-same-length-2 : tie.Need-shape_of-w-in-Edge
+same-length-2 : tie.Need-shape_of-w-in-Ok
 same-length-2 c = c.either.auto.w
 
-returns-2 : tie.Need-returns-in-Edge
+returns-2 : tie.Need-returns-in-Ok
 returns-2 c =
     let a = c.args in
-    closed-edge a.next a.table.now (state_of a.w.now) (state_of c.either.new.w) c.in-Edge.e
-    (ap (left c.either.new.w) (sym c.in-Edge.is) ∙ c.either.ensures)
+    closed-edge a.next a.table.now (state_of a.w.now) (state_of c.either.new.w) c.in-Ok.e
+    (ap (left c.either.new.w) (sym c.in-Ok.is) ∙ c.either.ensures)
 
 pub close_spec : {M : Type 1} → statement M
 close_spec =

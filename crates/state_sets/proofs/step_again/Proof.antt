@@ -7,7 +7,6 @@ use lib.ListN.{length, get_or, set}
 use mathlib.Core.Bool.{Bool}
 use Rattle.diagrams.specs.States.{state_of}
 use Rattle.collection.specs.Collecting as C
-use Rattle.collection.specs.declared.Collected.{Collected}
 use Rattle.state_sets.specs.Shape.{Fits}
 use Rattle.state_sets.specs.Sets.{sets_of, tried, left, step_of}
 use Rattle.state_sets.proofs.Follow.{again-done, again-out, again-more}
@@ -29,36 +28,36 @@ returns c =
     again-done (step_of a.s.vars a.s.rows a.next a.r) (sets_of a.w.now a.table.now) (sets_of c.step.new.w c.step.new.table)
     (ap (left c.step.new.w c.step.new.table) (sym c.if-step.true) ∙ c.step.ensures)
 
-step-requires-2 : tie.Need-step-requires-in-Kept
+step-requires-2 : tie.Need-step-requires-in-Ok
 step-requires-2 c κs =
     let e : length c.collect.new.roots ≡ length c.args.table.now = c.collect.auto.roots ∙ c.step.auto.table in
     (rw e c.requires.0, c.requires.1)
 
-same-length-3 : tie.Need-shape_of-w-in-Full
+same-length-3 : tie.Need-shape_of-w-in-Err
 same-length-3 c = c.collect.auto.w ∙ c.step.auto.w
 
-same-length-4 : tie.Need-shape_of-table-in-Full
+same-length-4 : tie.Need-shape_of-table-in-Err
 same-length-4 c = c.collect.auto.roots ∙ c.step.auto.table
 
-returns-2 : tie.Need-returns-in-Full
+returns-2 : tie.Need-returns-in-Err
 returns-2 c =
     let a = c.args in
     again-out (step_of a.s.vars a.s.rows a.next a.r) (sets_of a.w.now a.table.now) (sets_of c.step.new.w c.step.new.table)
     (state_of c.collect.new.w) c.collect.new.roots (ap (left c.step.new.w c.step.new.table) (sym c.if-step.false) ∙ c.step.ensures)
-    (ap (λ (r : Collected). C.collection (state_of c.collect.new.w) c.collect.new.roots (C.is_kept r)) (sym c.in-Full.is) ∙ c.collect.ensures)
+    (ap (λ (r : C.Collected). C.collection (state_of c.collect.new.w) c.collect.new.roots (C.is_kept r)) (sym c.in-Err.is) ∙ c.collect.ensures)
 
-same-length-5 : tie.Need-shape_of-w-in-Kept
-same-length-5 c = c.step-in-Kept.auto.w ∙ c.collect.auto.w ∙ c.step.auto.w
+same-length-5 : tie.Need-shape_of-w-in-Ok
+same-length-5 c = c.step-in-Ok.auto.w ∙ c.collect.auto.w ∙ c.step.auto.w
 
-same-length-6 : tie.Need-shape_of-table-in-Kept
-same-length-6 c = c.step-in-Kept.auto.table ∙ c.collect.auto.roots ∙ c.step.auto.table
+same-length-6 : tie.Need-shape_of-table-in-Ok
+same-length-6 c = c.step-in-Ok.auto.table ∙ c.collect.auto.roots ∙ c.step.auto.table
 
-returns-3 : tie.Need-returns-in-Kept
+returns-3 : tie.Need-returns-in-Ok
 returns-3 c =
     let a = c.args in
     again-more (step_of a.s.vars a.s.rows a.next a.r) (sets_of a.w.now a.table.now) (sets_of c.step.new.w c.step.new.table)
     (state_of c.collect.new.w) c.collect.new.roots _ (ap (left c.step.new.w c.step.new.table) (sym c.if-step.false) ∙ c.step.ensures)
-    (ap (λ (r : Collected). C.collection (state_of c.collect.new.w) c.collect.new.roots (C.is_kept r)) (sym c.in-Kept.is) ∙ c.collect.ensures) c.step-in-Kept.ensures
+    (ap (λ (r : C.Collected). C.collection (state_of c.collect.new.w) c.collect.new.roots (C.is_kept r)) (sym c.in-Ok.is) ∙ c.collect.ensures) c.step-in-Ok.ensures
 
 pub step_again_spec : {M : Type 1} → statement M
 step_again_spec =
