@@ -44,10 +44,8 @@ fn clear(work: &mut [u32], i: usize, n: usize)
     requires { (i ≤ 4611686018427387904) × (n ≤ 4611686018427387904) }
     ensures { work.new ≡ S.zeroed work.old i n }
 {
-    let mut left = n;
-    while 0 < left {
-        left -= 1;
-        put(work, i + left, 0);
+    for j in (0..n).rev() {
+        put(work, i + j, 0);
     }
 }
 
@@ -71,9 +69,7 @@ fn set_leaf(work: &mut [u32], k: u32)
 pub fn set_leaves(work: &mut [u32], n: u32)
     ensures { work.new ≡ S.leaves_set work.old n }
 {
-    let mut k = n;
-    while 0 < k {
-        k -= 1;
+    for k in (0..n).rev() {
         set_leaf(work, k);
     }
 }
@@ -91,9 +87,7 @@ fn set_gate(work: &mut [u32], k: u32)
 fn set_gates(work: &mut [u32], first: u32, n: u32)
     ensures { work.new ≡ S.gates_set work.old first (n - first) }
 {
-    let mut k = n;
-    while first < k {
-        k -= 1;
+    for k in (first..n).rev() {
         set_gate(work, k);
     }
 }
@@ -125,10 +119,8 @@ fn move_node(work: &mut [u32], k: u32)
 fn move_nodes(work: &mut [u32], n: u32)
     ensures { work.new ≡ S.all_moved work.old 1 (n - 1) }
 {
-    let mut k = 1;
-    while k < n {
+    for k in 1..n {
         move_node(work, k);
-        k += 1;
     }
 }
 
@@ -148,9 +140,7 @@ fn link(work: &mut [u32], nodes: u32, g: u32, side: u8)
 fn link_gates(work: &mut [u32], nodes: u32, first: u32)
     ensures { work.new ≡ S.all_linked work.old nodes first (nodes - first) }
 {
-    let mut g = nodes;
-    while first < g {
-        g -= 1;
+    for g in (first..nodes).rev() {
         link(work, nodes, g, 1);
         link(work, nodes, g, 0);
     }

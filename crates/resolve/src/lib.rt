@@ -28,16 +28,13 @@ fn append(work: &mut [u32], net: Netlist, arena: Arena, d: Draft, l: u32) -> Dra
         + 6 * (arena.count as usize)
         + (d.length as usize);
     if (net.words as usize) <= taken {
-        return Draft {
-            length: d.length,
-            whole: false,
-        };
+        return Draft { whole: false, ..d };
     }
     set_literal(work, net.nodes, arena.used, d.length, l);
     set_field(work, net.nodes, l / 2, POS, d.length);
     Draft {
         length: d.length + 1,
-        whole: d.whole,
+        ..d
     }
 }
 
@@ -60,23 +57,17 @@ fn exclude(work: &mut [u32], net: Netlist, arena: Arena, d: Draft, l: u32) -> Dr
 {
     let p = field(work, net.nodes, l / 2, POS);
     if d.length <= p {
-        return Draft {
-            length: d.length,
-            whole: false,
-        };
+        return Draft { whole: false, ..d };
     }
     if literal(work, net.nodes, arena.used, p) != l {
-        return Draft {
-            length: d.length,
-            whole: false,
-        };
+        return Draft { whole: false, ..d };
     }
     let x = literal(work, net.nodes, arena.used, d.length - 1);
     set_literal(work, net.nodes, arena.used, p, x);
     set_field(work, net.nodes, x / 2, POS, p);
     Draft {
         length: d.length - 1,
-        whole: d.whole,
+        ..d
     }
 }
 
@@ -95,10 +86,9 @@ fn gather(work: &mut [u32], net: Netlist, arena: Arena, d: Draft, r: u32, x: u32
     ensures { D.Left work.new result (D.gathered work.old net arena d r x (D.length_of work.old net r)) }
 {
     let mut e = d;
-    let mut left = length_of(work, net, r);
-    while 0 < left {
-        left -= 1;
-        let l = literal_of(work, net, r, left);
+    let n = length_of(work, net, r);
+    for i in (0..n).rev() {
+        let l = literal_of(work, net, r, i);
         e = join(work, net, arena, e, l, x);
     }
     e
@@ -135,8 +125,5 @@ pub fn resolve(work: &mut [u32], net: Netlist, arena: Arena, d: Draft, r: u32, x
         let e = exclude(work, net, arena, d, opposite(x));
         return gather(work, net, arena, e, r, x);
     }
-    Draft {
-        length: d.length,
-        whole: false,
-    }
+    Draft { whole: false, ..d }
 }
