@@ -14,11 +14,7 @@ pub fn copy_bits(from: &[u32], n: usize, to: &mut [u32])
     requires { (n ≤ length from.now) × (n ≤ length to.old) }
     ensures { Copied from.now n to.old to.new }
 {
-    let mut i = 0;
-    while i < n {
-        to[i] = from[i];
-        i += 1;
-    }
+    to[..n].copy_from_slice(&from[..n]);
 }
 
 // The place with one free bit more; 2 to the power 32 where it is not below.
@@ -43,11 +39,9 @@ pub fn place_of(work: &[u32], g: Graph, bits: &[u32]) -> u64
 {
     let free = g.free;
     let mut y = 0;
-    let mut v = 0;
-    while v < free {
+    for v in 0..free {
         let mark = work[16 * (v + 1) + 10];
         y = next_place(y, mark, bits[v]);
-        v += 1;
     }
     y
 }
@@ -78,11 +72,9 @@ pub fn spread_bits(work: &[u32], g: Graph, y: u64, bits: &mut [u32])
 {
     let free = g.free;
     let mut r = 0;
-    let mut left = free;
-    while 0 < left {
-        let mark = work[16 * left + 10];
-        left -= 1;
-        bits[left] = marked_bit(y, mark, r);
+    for u in (0..free).rev() {
+        let mark = work[16 * (u + 1) + 10];
+        bits[u] = marked_bit(y, mark, r);
         r = next_rank(r, mark);
     }
 }

@@ -10,14 +10,12 @@ ghost use Rattle.set_attempt.specs.Bits.{input_value, free_value};
 pub fn rank_of(list: &[u32], x: u32) -> usize
     ensures { result ≡ rank_in list.now x }
 {
-    let mut k = 0usize;
-    while k < list.len() {
-        if list[k] == x {
+    for (k, y) in list.iter().enumerate() {
+        if *y == x {
             return k;
         }
-        k += 1;
     }
-    k
+    list.len()
 }
 
 // The value of input i in row r of the inputs that matter.
@@ -28,7 +26,7 @@ fn input_word(inputs: &[u32], r: u32, i: u32) -> u32
     let count = inputs.len();
     let k = rank_of(inputs, i);
     if k < count {
-        return places::bit_of(r as u64, count - (k + 1));
+        return places::bit_of(u64::from(r), count - (k + 1));
     }
     0
 }
@@ -75,9 +73,7 @@ pub fn put_bits(
     ensures { (j : ℕ) → j < n → nonzero (get_or work.new j 0)
         ≡ free_value frees.now bits.now inputs.now trace.now width j }
 {
-    let mut j = 0usize;
-    while j < n {
+    for j in 0..n {
         work[j] = free_word(frees, bits, inputs, trace, width, j);
-        j += 1;
     }
 }
