@@ -1,16 +1,16 @@
 -- What the functions over the bytes of a bench compute, over plain numbers and lists. Assumes nothing.
-use mathlib.Core.Path.{◌≡◌, refl, sym, ap, ◌∙◌, subst}
-use mathlib.Core.Bool.{Bool, true, false, not, cond, ◌&&◌}
+use mathlib.Core.Path.{◌≡◌, refl, sym, ap, ◌∙◌}
+use mathlib.Core.Bool.{Bool, true, false, cond, ◌&&◌}
 use mathlib.Core.List.{List}
-use mathlib.Core.Option.{Option, none, some}
+use mathlib.Core.Option.{none, some}
 use Prim.Native.Nat.{ℕ, zero, suc, ◌+◌, ◌-◌, ◌*◌, ◌%◌, ◌≤◌, ◌<◌}
 use native.Mathlib.Omega.{arith}
-use lib.Dec.{leb, ltb, eqb}
-use lib.ListN.{length, get_or}
+use lib.Dec.{eqb}
+use lib.ListN.{get_or}
 use borrow.Author.Tests.{lt-ltb, le-ltb, eq-eqb, ne_eqb}
 use Rattle.benches.specs.declared.Entry.{Entry}
-use Rattle.benches.specs.Bench.{no_entry, ended, is_free, is_waiting, waits, after, first_of, turn_of}
-use Rattle.bench_bytes.specs.Bytes.{half_at, number_at, raw_at, meant, entry_at, entry_place, allowance_place, next_place, is_there, bench_in, bench_of}
+use Rattle.benches.specs.Bench.{ended, is_free, is_waiting, waits, after, first_of, turn_of}
+use Rattle.bench_bytes.specs.Bytes.{half_at, number_at, meant, entry_at, entry_place, allowance_place, next_place, is_there, bench_in, bench_of}
 use Rattle.bench_bytes.proofs.Records.{in_entry}
 use Rattle.bench_record.specs.Steps.{Below, first_in}
 

@@ -7,22 +7,27 @@ ghost use Rattle.place_search.specs.Places.{Placed};
 ghost use Rattle.benches.specs.Bench as Bench;
 ghost use Rattle.bench_bytes.specs.Bytes as Bytes;
 ghost use Rattle.bench_bytes.specs.Calls as Calls;
-ghost use Rattle.bench_record.specs.Steps.{Below, turn_is, first_in};
+ghost use Rattle.bench_record.specs.Steps.{Below, turn_is, first_in, placed_of};
 
 use benches::Entry;
 
-// Whose turn it is: nobody's, or that of a number.
+// What a turn's search of a frame came to: a hit, no hit, or a budget spent at the place that it reached.
 #[derive(Clone, Copy)]
-pub enum Turn {
-    Idle,
-    Number(usize),
+pub enum Outcome {
+    Hit,
+    Clear,
+    Spent(u64),
 }
 
-// Byte i, or 0 past the end.
+// Byte i, or 0 past the end. `memory::get` is the same over words; this one stands apart, as its contract tells the bound of a byte too.
 fn byte(bytes: &[u8], i: usize) -> u64
     ensures { Below (get_or bytes.now i 0) 256 result }
 {
-    if i < bytes.len() { bytes[i] as u64 } else { 0 }
+    if i < bytes.len() {
+        u64::from(bytes[i])
+    } else {
+        0
+    }
 }
 
 // Four bytes from p on, the lowest first.
@@ -55,18 +60,7 @@ fn is_entry(e: Entry) -> bool
 fn meant(e: Entry) -> Entry
     ensures { result ≡ Bytes.meant e }
 {
-    if is_entry(e) {
-        e
-    } else {
-        Entry {
-            stage: 0,
-            b: 0,
-            k: 0,
-            budget: 0,
-            frame: 0,
-            place: 0,
-        }
-    }
+    if is_entry(e) { e } else { Entry::default() }
 }
 
 // The search whose bytes begin at p.
@@ -90,7 +84,7 @@ pub fn entry_at(bytes: &[u8], p: usize) -> Entry
     })
 }
 
-// Stores x at i, unless that is past the end.
+// Stores x at i, unless that is past the end. `memory::put` is the same over words; a generic function for both is no plainer than the test.
 fn put(bytes: &mut [u8], i: usize, x: u8)
     ensures { bytes.new ≡ set bytes.old i x }
 {
@@ -207,32 +201,29 @@ fn waits(shared: &[u8], user: usize, n: usize) -> bool
 }
 
 // The first number from next on, in cyclic order, whose search waits.
-fn first_waiting(shared: &[u8], user: usize, next: usize) -> Turn
+fn first_waiting(shared: &[u8], user: usize, next: usize) -> Option<usize>
     requires { (user ≤ 1) × (next < 16) }
     ensures { turn_is result ≡ first_in shared.now user next 16 }
 {
-    let mut n = next;
-    let mut left = 16usize;
-    while 0 < left {
+    for k in 0..16 {
+        let n = (next + k) % 16;
         if waits(shared, user, n) {
-            return Turn::Number(n);
+            return Some(n);
         }
-        n = (n + 1) % 16;
-        left -= 1;
     }
-    Turn::Idle
+    None
 }
 
-// Whose turn it is.
-pub fn turn_of(shared: &[u8], user: usize) -> Turn
+// Whose turn it is: that of a number, or nobody's.
+pub fn turn_of(shared: &[u8], user: usize) -> Option<usize>
     requires { user ≤ 1 }
     ensures { turn_is result ≡ Bench.turn_of (Bytes.bench_of shared.now user) }
 {
     if !is_there(shared, user) {
-        return Turn::Idle;
+        return None;
     }
     if allowance_of(shared, user) == 0 {
-        return Turn::Idle;
+        return None;
     }
     let next = number_at(shared, 512 + 1024 * user + 776) % 16;
     first_waiting(shared, user, next as usize)
@@ -242,10 +233,7 @@ pub fn turn_of(shared: &[u8], user: usize) -> Turn
 pub fn grant_of(budget: u64, allowance: u64) -> u64
     ensures { result ≡ min 1024 (min budget allowance) }
 {
-    if budget <= allowance {
-        return if budget <= 1024 { budget } else { 1024 };
-    }
-    if allowance <= 1024 { allowance } else { 1024 }
+    budget.min(allowance).min(1024)
 }
 
 // A search after a hit.
@@ -255,11 +243,8 @@ pub fn after_hit(e: Entry, grant: u64) -> Entry
 {
     Entry {
         stage: 2,
-        b: e.b,
-        k: e.k,
         budget: e.budget - grant,
-        frame: e.frame,
-        place: e.place,
+        ..e
     }
 }
 
@@ -271,20 +256,16 @@ pub fn after_clear(e: Entry, grant: u64) -> Entry
     if e.frame < e.k {
         return Entry {
             stage: 1,
-            b: e.b,
-            k: e.k,
             budget: e.budget - grant,
             frame: e.frame + 1,
             place: 0,
+            ..e
         };
     }
     Entry {
         stage: 3,
-        b: e.b,
-        k: e.k,
         budget: e.budget - grant,
-        frame: e.frame,
-        place: e.place,
+        ..e
     }
 }
 
@@ -295,11 +276,21 @@ pub fn after_spent(e: Entry, grant: u64, reached: u64) -> Entry
 {
     Entry {
         stage: 1,
-        b: e.b,
-        k: e.k,
         budget: e.budget - grant,
-        frame: e.frame,
         place: reached,
+        ..e
+    }
+}
+
+// A search after a turn.
+fn after_turn(e: Entry, grant: u64, outcome: Outcome) -> Entry
+    requires { grant ≤ e.budget }
+    ensures { (x : ℕ) → result ≡ Bench.entry_after e grant (placed_of outcome x) }
+{
+    match outcome {
+        Outcome::Hit => after_hit(e, grant),
+        Outcome::Clear => after_clear(e, grant),
+        Outcome::Spent(reached) => after_spent(e, grant, reached),
     }
 }
 
@@ -332,35 +323,11 @@ pub fn put_turned(shared: &mut [u8], user: usize, n: usize, allowance: u64, e: E
     put_number(shared, 512 + 1024 * user + 776, ((n + 1) % 16) as u64);
 }
 
-// Stores what a turn of number n leaves whose search found a hit.
-pub fn settle_hit(shared: &mut [u8], user: usize, n: usize)
+// Stores what a turn of number n leaves whose search had this outcome.
+pub fn settle(shared: &mut [u8], user: usize, n: usize, outcome: Outcome)
     requires { (user ≤ 1) × (Bench.turn_of (Bytes.bench_of shared.old user) ≡ Option.some n) }
     ensures { (x : ℕ) → shared.new
-        ≡ Calls.bytes_after shared.old user (Bytes.bench_of shared.old user) n (Placed.hit x) }
-{
-    let e = entry_of(shared, user, n);
-    let allowance = allowance_of(shared, user);
-    let grant = grant_of(e.budget, allowance);
-    put_turned(shared, user, n, allowance - grant, after_hit(e, grant));
-}
-
-// Stores what it leaves where the frame was done without a hit.
-pub fn settle_clear(shared: &mut [u8], user: usize, n: usize)
-    requires { (user ≤ 1) × (Bench.turn_of (Bytes.bench_of shared.old user) ≡ Option.some n) }
-    ensures { shared.new
-        ≡ Calls.bytes_after shared.old user (Bytes.bench_of shared.old user) n Placed.clear }
-{
-    let e = entry_of(shared, user, n);
-    let allowance = allowance_of(shared, user);
-    let grant = grant_of(e.budget, allowance);
-    put_turned(shared, user, n, allowance - grant, after_clear(e, grant));
-}
-
-// Stores what it leaves where the frame was spent.
-pub fn settle_spent(shared: &mut [u8], user: usize, n: usize, reached: u64)
-    requires { (user ≤ 1) × (Bench.turn_of (Bytes.bench_of shared.old user) ≡ Option.some n) }
-    ensures { shared.new
-        ≡ Calls.bytes_after shared.old user (Bytes.bench_of shared.old user) n (Placed.spent reached) }
+        ≡ Calls.bytes_after shared.old user (Bytes.bench_of shared.old user) n (placed_of outcome x) }
 {
     let e = entry_of(shared, user, n);
     let allowance = allowance_of(shared, user);
@@ -370,7 +337,7 @@ pub fn settle_spent(shared: &mut [u8], user: usize, n: usize, reached: u64)
         user,
         n,
         allowance - grant,
-        after_spent(e, grant, reached),
+        after_turn(e, grant, outcome),
     );
 }
 
@@ -395,10 +362,7 @@ pub fn end_bench(shared: &mut [u8], user: usize)
     requires { user ≤ 1 }
     ensures { shared.new ≡ Bytes.put_ended shared.old user }
 {
-    let mut i: usize = 0;
-    while i < shared.len() {
-        let x = shared[i];
-        shared[i] = cleared_byte(user, i, x);
-        i += 1;
+    for (i, x) in shared.iter_mut().enumerate() {
+        *x = cleared_byte(user, i, *x);
     }
 }

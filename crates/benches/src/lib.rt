@@ -2,9 +2,9 @@
 #![tactic(auto)]
 
 // A search on a bench. stage is 0 where the number is not in use, 1 where the search is unfinished, 2 where it has found a hit, and 3 where
-// its frames have none. budget is what is outstanding; frame and place are where its next turn begins, or its last one began where it is
+// its frames have none. It is a number since the bytes of a bench hold it as one: other numbers stand there too, and mean 0. budget is what is outstanding; frame and place are where its next turn begins, or its last one began where it is
 // finished.
-#[derive(Clone, Copy)]
+#[derive(Clone, Copy, Default)]
 pub struct Entry {
     pub stage: u64,
     pub b: u64,

@@ -1,5 +1,5 @@
 -- `bench_record::cleared_byte` meets its contract. Assumes nothing.
-use mathlib.Core.Path.{sym, ◌∙◌, ap}
+use mathlib.Core.Path.{sym, ◌∙◌}
 use borrow.Author.Rules.{rules}
 use Rattle.bench_record.proofs.cleared_byte.Statement.{statement}
 use Rattle.bench_record.proofs.cleared_byte.Tie as tie

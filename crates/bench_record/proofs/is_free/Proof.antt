@@ -3,7 +3,6 @@ use native.Mathlib.Omega.{arith}
 use mathlib.Core.Path.{sym, ◌∙◌}
 use Rattle.bench_record.proofs.Laws.{free-beyond, free-absent, free_in}
 use borrow.Author.Rules.{rules}
-use borrow.Author.Tests.{not-true, not-false}
 use Rattle.bench_record.proofs.is_free.Statement.{statement}
 use Rattle.bench_record.proofs.is_free.Tie as tie
 
