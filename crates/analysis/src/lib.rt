@@ -8,8 +8,7 @@ ghost use Rattle.memory.specs.Record.{Told};
 ghost use Rattle.analysis.specs.Analysis as S;
 
 use memory::{
-    ACT, Arena, Draft, LARGEST, LEVEL, Netlist, REASON, TRAIL, Trail, field, literal, opposite,
-    set_field,
+    ACT, Arena, Draft, LEVEL, Netlist, REASON, TRAIL, Trail, field, literal, opposite, set_field,
 };
 use reasons::is_reason;
 use resolve::{is_member, resolve, start};
@@ -22,26 +21,12 @@ pub struct Analysis {
     pub current: u32,
 }
 
-// The sum of a and b, or the largest number where that is less.
-fn sum(a: u32, b: u32) -> u32
-    ensures { result ≡ S.sum a b }
-{
-    if LARGEST - a < b { LARGEST } else { a + b }
-}
-
-// One less, or 0.
-fn less(a: u32) -> u32
-    ensures { result ≡ S.less a }
-{
-    if a == 0 { 0 } else { a - 1 }
-}
-
 // Raises the activity of node v.
 fn touch(work: &mut [u32], nodes: u32, v: u32, step: u32)
     ensures { work.new ≡ S.touched work.old nodes v step }
 {
     let act = field(work, nodes, v, ACT);
-    set_field(work, nodes, v, ACT, sum(act, step));
+    set_field(work, nodes, v, ACT, act.saturating_add(step));
 }
 
 // n, and one more where node v is of this level.
@@ -49,7 +34,7 @@ fn tally(work: &[u32], nodes: u32, v: u32, level: u32, n: u32) -> u32
     ensures { result ≡ S.tallied work.now nodes v level n }
 {
     if field(work, nodes, v, LEVEL) == level {
-        return sum(n, 1);
+        return n.saturating_add(1);
     }
     n
 }
@@ -66,11 +51,9 @@ fn touch_all(
 ) -> u32
     ensures { Told work.new result (S.touched_all work.old net arena from level step length 0) }
 {
-    let mut left = length;
     let mut n = 0;
-    while from < left {
-        left -= 1;
-        let v = literal(work, net.nodes, arena.used, left) / 2;
+    for i in (from..length).rev() {
+        let v = literal(work, net.nodes, arena.used, i) / 2;
         n = tally(work, net.nodes, v, level, n);
         touch(work, net.nodes, v, step);
     }
@@ -101,11 +84,19 @@ fn replace(
         why,
         l,
     );
-    let n = touch_all(work, net, arena, e.length, less(a.length), level, step);
+    let n = touch_all(
+        work,
+        net,
+        arena,
+        e.length,
+        a.length.saturating_sub(1),
+        level,
+        step,
+    );
     Analysis {
         length: e.length,
         whole: e.whole,
-        current: sum(less(a.current), n),
+        current: a.current.saturating_sub(1).saturating_add(n),
     }
 }
 
@@ -150,13 +141,11 @@ fn descend(
     ensures { S.Left work.new result (S.descended work.old net arena a level step n) }
 {
     let mut b = a;
-    let mut left = n;
-    while 0 < left {
+    for t in (0..n).rev() {
         if b.current <= 1 {
             return b;
         }
-        left -= 1;
-        b = visit(work, net, arena, b, left, level, step);
+        b = visit(work, net, arena, b, t, level, step);
     }
     b
 }
@@ -219,10 +208,8 @@ fn expand_from(work: &mut [u32], net: Netlist, arena: Arena, d: Draft, n: u32) -
     ensures { D.Left work.new result (S.expanded_from work.old net arena d n) }
 {
     let mut e = d;
-    let mut left = n;
-    while 0 < left {
-        left -= 1;
-        e = expand(work, net, arena, e, left);
+    for t in (0..n).rev() {
+        e = expand(work, net, arena, e, t);
     }
     e
 }

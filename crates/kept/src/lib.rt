@@ -77,10 +77,8 @@ pub fn attach(work: &mut [u32], net: Netlist, c: u32, s: u8, x: u32)
 pub fn detach(work: &mut [u32], net: Netlist, n: u32)
     ensures { work.new ≡ K.detached work.old net n }
 {
-    let mut left = n;
-    while 0 < left {
-        left -= 1;
-        set_field(work, net.nodes, left, 7, UNDEF);
-        set_field(work, net.nodes, left, 8, UNDEF);
+    for v in (0..n).rev() {
+        set_field(work, net.nodes, v, 7, UNDEF);
+        set_field(work, net.nodes, v, 8, UNDEF);
     }
 }

@@ -8,10 +8,25 @@ ghost use Rattle.propagation.specs.Gates as G;
 use memory::{Netlist, UNDEF, field, opposite};
 use trail::{State, assign, value};
 
-// What the values o of a gate and x, y of its operands imply: 0 nothing; 1, 2 or 3 that the clause of the left operand, of the right
-// one or of both is violated; 4, 5 that the left or right operand is true; 6, 7 that the right or left one is false; 8, 9 that the gate
-// is false because of the left or right one; 10 that it is true.
-fn rule(o: u32, x: u32, y: u32) -> u32
+// What the values of a gate and of its operands imply: that the clause of its left operand, of the right one or of both is violated; that
+// the left or right operand is true, or the right or left one false; that the gate is false because of the left or right one; or that it
+// is true.
+#[derive(Clone, Copy)]
+enum Consequence {
+    LeftViolated,
+    RightViolated,
+    BothViolated,
+    LeftTrue,
+    RightTrue,
+    RightFalse,
+    LeftFalse,
+    FalseByLeft,
+    FalseByRight,
+    True,
+}
+
+// What the values o of a gate and x, y of its operands imply, if anything.
+fn rule(o: u32, x: u32, y: u32) -> Option<Consequence>
     ensures { result ≡ G.rule o x y }
 {
     if o == 1 {
@@ -21,114 +36,101 @@ fn rule(o: u32, x: u32, y: u32) -> u32
         return rule_false(x, y);
     }
     if x == 0 {
-        return 8;
+        return Some(Consequence::FalseByLeft);
     }
     if y == 0 {
-        return 9;
+        return Some(Consequence::FalseByRight);
     }
     if x == 1 {
-        return if y == 1 { 10 } else { 0 };
+        return if y == 1 {
+            Some(Consequence::True)
+        } else {
+            None
+        };
     }
-    0
+    None
 }
 
 // The same of a gate that is true.
-fn rule_true(x: u32, y: u32) -> u32
+fn rule_true(x: u32, y: u32) -> Option<Consequence>
     ensures { result ≡ G.rule_true x y }
 {
     if x == 0 {
-        return 1;
+        return Some(Consequence::LeftViolated);
     }
     if y == 0 {
-        return 2;
+        return Some(Consequence::RightViolated);
     }
     if x == 2 {
-        return 4;
+        return Some(Consequence::LeftTrue);
     }
-    if y == 2 { 5 } else { 0 }
+    if y == 2 {
+        Some(Consequence::RightTrue)
+    } else {
+        None
+    }
 }
 
 // The same of a gate that is false.
-fn rule_false(x: u32, y: u32) -> u32
+fn rule_false(x: u32, y: u32) -> Option<Consequence>
     ensures { result ≡ G.rule_false x y }
 {
     if x == 1 {
         if y == 1 {
-            return 3;
+            return Some(Consequence::BothViolated);
         }
-        return if y == 2 { 6 } else { 0 };
+        return if y == 2 {
+            Some(Consequence::RightFalse)
+        } else {
+            None
+        };
     }
     if x == 2 {
-        return if y == 1 { 7 } else { 0 };
+        return if y == 1 {
+            Some(Consequence::LeftFalse)
+        } else {
+            None
+        };
     }
-    0
-}
-
-// The literal that is implied for gate g.
-fn implied(work: &[u32], nodes: u32, g: u32, rule: u32) -> u32
-    requires { g < 1073741823 }
-    ensures { result ≡ G.implied work.now nodes g rule }
-{
-    if rule == 4 {
-        return field(work, nodes, g, 0);
-    }
-    if rule == 5 {
-        return field(work, nodes, g, 1);
-    }
-    if rule == 6 {
-        return opposite(field(work, nodes, g, 1));
-    }
-    if rule == 7 {
-        return opposite(field(work, nodes, g, 0));
-    }
-    if rule == 10 { 2 * g } else { 2 * g + 1 }
-}
-
-// The clause of gate g by which a literal is implied.
-fn reason(g: u32, rule: u32) -> u32
-    requires { g < 1073741823 }
-    ensures { result ≡ G.reason g rule }
-{
-    if rule == 4 {
-        return 4 * g;
-    }
-    if rule == 8 {
-        return 4 * g;
-    }
-    if rule == 5 {
-        return 4 * g + 1;
-    }
-    if rule == 9 { 4 * g + 1 } else { 4 * g + 2 }
+    None
 }
 
 // A clause is violated.
 fn violated(s: State, why: u32) -> State
     ensures { result ≡ G.violated s why }
 {
-    State {
-        length: s.length,
-        next: s.next,
-        level: s.level,
-        ticks: s.ticks,
-        clash: why,
-        clause: s.clause,
-        link: s.link,
-    }
+    State { clash: why, ..s }
 }
 
-// What is implied becomes true, or the violated clause is noted.
-fn apply(work: &mut [u32], net: Netlist, s: State, g: u32, rule: u32) -> State
+// What is implied of gate g becomes true, by the clause that implies it, or the violated clause is noted.
+fn apply(work: &mut [u32], net: Netlist, s: State, g: u32, what: Consequence) -> State
     requires { g < 1073741823 }
-    ensures { T.Left work.new result (G.applied work.old net s g rule) }
+    ensures { T.Left work.new result (G.applied work.old net s g what) }
 {
-    if rule == 0 {
-        return s;
+    match what {
+        Consequence::LeftViolated => violated(s, 4 * g),
+        Consequence::RightViolated => violated(s, 4 * g + 1),
+        Consequence::BothViolated => violated(s, 4 * g + 2),
+        Consequence::LeftTrue => {
+            let l = field(work, net.nodes, g, 0);
+            assign(work, net, s, l, 4 * g)
+        }
+        Consequence::RightTrue => {
+            let l = field(work, net.nodes, g, 1);
+            assign(work, net, s, l, 4 * g + 1)
+        }
+        Consequence::RightFalse => {
+            let l = opposite(field(work, net.nodes, g, 1));
+            assign(work, net, s, l, 4 * g + 2)
+        }
+        Consequence::LeftFalse => {
+            let l = opposite(field(work, net.nodes, g, 0));
+            assign(work, net, s, l, 4 * g + 2)
+        }
+        Consequence::FalseByLeft => assign(work, net, s, 2 * g + 1, 4 * g),
+        Consequence::FalseByRight => assign(work, net, s, 2 * g + 1, 4 * g + 1),
+        Consequence::True => assign(work, net, s, 2 * g, 4 * g + 2),
     }
-    if rule <= 3 {
-        return violated(s, 4 * g + (rule - 1));
-    }
-    let l = implied(work, net.nodes, g, rule);
-    assign(work, net, s, l, reason(g, rule))
 }
 
 // The value of literal l, where the words have room for all records.
@@ -145,11 +147,11 @@ fn held_value(work: &[u32], nodes: u32, l: u32) -> u32
 }
 
 // What the values of gate g and of its operands imply, with every word tested.
-fn tested_rule(work: &[u32], nodes: u32, g: u32) -> u32
+fn tested_rule(work: &[u32], nodes: u32, g: u32) -> Option<Consequence>
     ensures { result ≡ G.gate_rule work.now nodes g }
 {
     if 1073741823 <= g {
-        return 0;
+        return None;
     }
     let a = field(work, nodes, g, 0);
     let b = field(work, nodes, g, 1);
@@ -160,7 +162,7 @@ fn tested_rule(work: &[u32], nodes: u32, g: u32) -> u32
 }
 
 // What the values of gate g and of its operands imply. Of a gate that is false like its left operand, nothing more is read.
-fn gate_rule(work: &[u32], nodes: u32, g: u32) -> u32
+fn gate_rule(work: &[u32], nodes: u32, g: u32) -> Option<Consequence>
     ensures { result ≡ G.gate_rule work.now nodes g }
 {
     if work.len() < 14 * (nodes as usize) {
@@ -170,14 +172,14 @@ fn gate_rule(work: &[u32], nodes: u32, g: u32) -> u32
         return tested_rule(work, nodes, g);
     }
     if 1073741823 <= g {
-        return 0;
+        return None;
     }
     let i = 14 * (g as usize);
     let o = work[i + 5];
     let x = held_value(work, nodes, work[i]);
     if o == 0 {
         if x == 0 {
-            return 0;
+            return None;
         }
     }
     let y = held_value(work, nodes, work[i + 1]);
@@ -188,11 +190,10 @@ fn gate_rule(work: &[u32], nodes: u32, g: u32) -> u32
 pub fn look(work: &mut [u32], net: Netlist, s: State, g: u32) -> State
     ensures { T.Left work.new result (G.looked work.old net s g) }
 {
-    let r = gate_rule(work, net.nodes, g);
-    if r == 0 {
-        return s;
+    match gate_rule(work, net.nodes, g) {
+        Some(r) => apply(work, net, s, g, r),
+        None => s,
     }
-    apply(work, net, s, g, r)
 }
 
 // The fan-out after e, or 0.
@@ -212,8 +213,7 @@ pub fn look_up(work: &mut [u32], net: Netlist, s: State, e: u32, n: u32) -> Stat
 {
     let mut t = s;
     let mut at = e;
-    let mut left = n;
-    while 0 < left {
+    for _ in 0..n {
         if at == 0 {
             return t;
         }
@@ -221,12 +221,10 @@ pub fn look_up(work: &mut [u32], net: Netlist, s: State, e: u32, n: u32) -> Stat
             return t;
         }
         let next = next_fan(work, net.nodes, at);
-        let r = gate_rule(work, net.nodes, at / 2);
-        if r != 0 {
+        if let Some(r) = gate_rule(work, net.nodes, at / 2) {
             t = apply(work, net, t, at / 2, r);
         }
         at = next;
-        left -= 1;
     }
     t
 }

@@ -1,5 +1,5 @@
 -- The trail, as functions of the words. Assumes nothing.
-use Rattle.std.specs.Prelude.{◌≡◌, Bool, cond, List, ℕ, zero, suc, ◌+◌, ◌-◌, ◌/◌, ◌%◌, eqb, leb, ltb}
+use Rattle.std.specs.Prelude.{◌≡◌, Bool, cond, List, ℕ, zero, suc, min, ◌+◌, ◌-◌, ◌/◌, ◌%◌, eqb, leb, ltb}
 use Rattle.memory.specs.Record.{Counted, counted, undef, field, stored}
 use Rattle.memory.specs.declared.Netlist.{Netlist}
 use Rattle.trail.specs.declared.State.{State}
@@ -65,16 +65,13 @@ taken_back w nodes to zero = counted w 0
 taken_back w nodes to (suc t) =
     cond (leb (field w nodes (entry w nodes t) 6) to) (counted w (suc t)) (taken_back (stored w nodes (entry w nodes t) 5 2) nodes to t)
 
-unfoldable pub smaller : ℕ → ℕ → ℕ
-smaller a b = cond (ltb a b) a b
-
 -- at n entries and level `to`
 abbrev pub cut : State → ℕ → ℕ → State
 cut s n to =
     record {
       length = n;
-      next = smaller s.next n;
-      level = smaller s.level to;
+      next = min s.next n;
+      level = min s.level to;
       ticks = s.ticks;
       clash = undef;
       clause = s.clause;

@@ -52,12 +52,7 @@ pub fn assign(work: &mut [u32], net: Netlist, s: State, l: u32, why: u32) -> Sta
     set_field(work, net.nodes, s.length, TRAIL, l);
     State {
         length: s.length + 1,
-        next: s.next,
-        level: s.level,
-        ticks: s.ticks,
-        clash: s.clash,
-        clause: s.clause,
-        link: s.link,
+        ..s
     }
 }
 
@@ -69,13 +64,8 @@ pub fn decide(work: &mut [u32], net: Netlist, s: State, l: u32) -> State
         return s;
     }
     let t = State {
-        length: s.length,
-        next: s.next,
         level: s.level + 1,
-        ticks: s.ticks,
-        clash: s.clash,
-        clause: s.clause,
-        link: s.link,
+        ..s
     };
     assign(work, net, t, l, UNDEF)
 }
@@ -84,22 +74,14 @@ pub fn decide(work: &mut [u32], net: Netlist, s: State, l: u32) -> State
 fn take_back(work: &mut [u32], nodes: u32, n: u32, to: u32) -> u32
     ensures { Told work.new result (S.taken_back work.old nodes to n) }
 {
-    let mut left = n;
-    while 0 < left {
-        let v = field(work, nodes, left - 1, TRAIL) / 2;
+    for t in (0..n).rev() {
+        let v = field(work, nodes, t, TRAIL) / 2;
         if field(work, nodes, v, LEVEL) <= to {
-            return left;
+            return t + 1;
         }
         set_field(work, nodes, v, VAL, 2);
-        left -= 1;
     }
     0
-}
-
-fn smaller(a: u32, b: u32) -> u32
-    ensures { result ≡ S.smaller a b }
-{
-    if a < b { a } else { b }
 }
 
 // Back to level `to`.
@@ -109,11 +91,9 @@ pub fn backtrack(work: &mut [u32], net: Netlist, s: State, to: u32) -> State
     let n = take_back(work, net.nodes, s.length, to);
     State {
         length: n,
-        next: smaller(s.next, n),
-        level: smaller(s.level, to),
-        ticks: s.ticks,
+        next: s.next.min(n),
+        level: s.level.min(to),
         clash: UNDEF,
-        clause: s.clause,
-        link: s.link,
+        ..s
     }
 }

@@ -14,10 +14,10 @@ returns c =
       ← c.field-why.ensures,
       ← r.words,
       ← r.draft,
-      ← c.less.ensures,
-      ← c.less-2.ensures,
+      ← c.saturating_sub.ensures,
+      ← c.saturating_sub-2.ensures,
       ← t.count,
-      ← c.sum.ensures,
+      ← c.saturating_add.ensures,
     ) (record { words = t.words; now = refl })
 
 pub replace_spec : {M : Type 1} → statement M

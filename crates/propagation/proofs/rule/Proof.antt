@@ -2,6 +2,8 @@
 use mathlib.Core.Path.{◌≡◌}
 use mathlib.Core.Bool.{cond}
 use lib.Dec.{eqb}
+use Rattle.std.specs.Prelude.{Some, None}
+use Rattle.propagation.specs.declared.Consequence.TheVariants.{FalseByRight, True}
 use Rattle.propagation.specs.Gates as G
 use Rattle.propagation.proofs.Turns.{equal, unequal}
 use borrow.Author.Rules.{rules}
@@ -11,7 +13,7 @@ use Rattle.propagation.proofs.rule.Tie as tie
 -- the first three tests failed
 third : (c : tie.Else-x-eq0)
     → let a = c.args in
-    G.rule a.o a.x a.y ≡ cond (eqb a.y 0) 9 (cond (eqb a.x 1) (cond (eqb a.y 1) 10 0) 0)
+    G.rule a.o a.x a.y ≡ cond (eqb a.y 0) (Some FalseByRight) (cond (eqb a.x 1) (cond (eqb a.y 1) (Some True) None) None)
 unfolding G.rule
 third c = rw (unequal c.if-o-eq1.false, unequal c.if-o-eq0.false, unequal c.if-x-eq0.false)
 

@@ -2,6 +2,8 @@
 use mathlib.Core.Path.{◌≡◌}
 use mathlib.Core.Bool.{cond}
 use lib.Dec.{eqb}
+use Rattle.std.specs.Prelude.{Some, None}
+use Rattle.propagation.specs.declared.Consequence.TheVariants.{RightTrue}
 use Rattle.propagation.specs.Gates as G
 use Rattle.propagation.proofs.Turns.{equal, unequal}
 use Rattle.propagation.proofs.rule_true.Statement.{statement}
@@ -10,7 +12,7 @@ use Rattle.propagation.proofs.rule_true.Tie as tie
 -- the first three tests failed
 third : (c : tie.Else-x-eq2)
     → let a = c.args in
-    G.rule_true a.x a.y ≡ cond (eqb a.y 2) 5 0
+    G.rule_true a.x a.y ≡ cond (eqb a.y 2) (Some RightTrue) None
 unfolding G.rule_true
 third c = rw (unequal c.if-x-eq0.false, unequal c.if-y-eq0.false, unequal c.if-x-eq2.false)
 

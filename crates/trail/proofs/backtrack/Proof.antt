@@ -9,7 +9,7 @@ returns : tie.Need-returns
 unfolding S.backtracked
 returns c =
     let t = c.take_back-n.ensures in
-    rw (← t.count, ← c.smaller.ensures, ← c.smaller-2.ensures) (record { words = t.words; state = refl })
+    rw (← t.count, ← c.min.ensures, ← c.min-2.ensures) (record { words = t.words; state = refl })
 
 pub backtrack_spec : {M : Type 1} → statement M
 backtrack_spec =
