@@ -51,10 +51,8 @@ fn unmark(w: &mut [u32])
         (C.unmarked_in (length (S.state_of w.old).nodes) (S.state_of w.old).nodes) }
 {
     let n = diagrams::get(w, 0);
-    let mut i = 0;
-    while i < n {
+    for i in 0..n {
         link(w, i, 0);
-        i += 1;
     }
 }
 
@@ -64,10 +62,8 @@ fn mark_roots(w: &mut [u32], roots: &[u32])
     ensures { S.state_of w.new ≡ C.with_nodes (S.state_of w.old)
         (C.rooted_in roots.now (length roots.now) (S.state_of w.old).nodes) }
 {
-    let mut i = 0;
-    while i < roots.len() {
-        link(w, roots[i] / 2, 1);
-        i += 1;
+    for root in roots {
+        link(w, *root / 2, 1);
     }
 }
 
@@ -90,10 +86,8 @@ fn sweep(w: &mut [u32], last: u32)
     ensures { S.state_of w.new
         ≡ C.with_nodes (S.state_of w.old) (C.swept_in last last (S.state_of w.old).nodes) }
 {
-    let mut j = 0;
-    while j < last {
+    for j in 0..last {
         mark_edges(w, last - j);
-        j += 1;
     }
 }
 
@@ -164,10 +158,8 @@ fn pack(w: &mut [u32], last: u32) -> u32
         × (result ≡ (C.packed_in last (S.state_of w.old).nodes).count) }
 {
     let mut k = 1;
-    let mut j = 0;
-    while j < last {
+    for j in 0..last {
         k = pack_one(w, j + 1, k);
-        j += 1;
     }
     k
 }
@@ -176,10 +168,8 @@ fn pack(w: &mut [u32], last: u32) -> u32
 fn rename(w: &[u32], roots: &mut [u32])
     ensures { roots.new ≡ map (C.renamed_in (S.state_of w.now).nodes) roots.old }
 {
-    let mut at = 0;
-    while at < roots.len() {
+    for at in 0..roots.len() {
         roots[at] = renamed(w, roots[at]);
-        at += 1;
     }
 }
 
@@ -188,10 +178,8 @@ fn zero(w: &mut [u32], from: usize, to: usize)
     requires { (from ≤ to) × (to ≤ length w.old) }
     ensures { Z.Zeroed w.old w.new from to }
 {
-    let mut i = from;
-    while i < to {
+    for i in from..to {
         w[i] = 0;
-        i += 1;
     }
 }
 
@@ -226,10 +214,8 @@ fn rehash(w: &mut [u32], last: u32)
     requires { (length (S.state_of w.old).nodes ≤ (S.state_of w.old).room) × (last < 4294967295) }
     ensures { S.state_of w.new ≡ C.rehashed last (S.state_of w.old) }
 {
-    let mut j = 0;
-    while j < last {
+    for j in 0..last {
         hash(w, j + 1);
-        j += 1;
     }
 }
 

@@ -103,14 +103,11 @@ fn put_latches(w: &mut [u32], m: &[u32], layout: Layout, latches: &[u32], edges:
     ensures { R.leaves w.new edges.new result
         ≡ R.latches_put (circuit_in m.now) 0 latches.now (state_of w.old) edges.old }
 {
-    let count = latches.len();
-    let mut v = 0;
-    while v < count {
+    for v in 0..latches.len() {
         let l = triple_at(m, layout.latches, layout.l, latches[v] as usize, 0);
         if !put_latch(w, v as u32, l, edges) {
             return false;
         }
-        v += 1;
     }
     true
 }
@@ -167,13 +164,10 @@ fn put_gates(w: &mut [u32], m: &[u32], layout: Layout, gates: &[u32], edges: &mu
     ensures { R.leaves w.new edges.new result
         ≡ R.gates_put (circuit_in m.now) gates.now (state_of w.old) edges.old }
 {
-    let count = gates.len();
-    let mut k = 0;
-    while k < count {
-        if !put_gate_at(w, m, layout, gates[k] as usize, edges) {
+    for g in gates {
+        if !put_gate_at(w, m, layout, *g as usize, edges) {
             return false;
         }
-        k += 1;
     }
     true
 }
@@ -210,14 +204,11 @@ fn are_present(m: &[u32], layout: Layout, latches: &[u32], edges: &[u32]) -> boo
     requires { Prepared m.now layout }
     ensures { result ≡ every (λ j. R.is_present edges.now (R.next_literal (circuit_in m.now) j)) latches.now }
 {
-    let count = latches.len();
-    let mut v = 0;
-    while v < count {
-        let l = triple_at(m, layout.latches, layout.l, latches[v] as usize, 1);
+    for j in latches {
+        let l = triple_at(m, layout.latches, layout.l, *j as usize, 1);
         if !is_present(edges, l) {
             return false;
         }
-        v += 1;
     }
     true
 }

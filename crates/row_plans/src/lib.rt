@@ -53,11 +53,9 @@ fn list_inputs(m: &[u32], layout: Layout, marks: &[u32], plan: &mut [u32], at: u
 {
     let count = layout.i;
     let mut n = at;
-    let mut i = 0;
-    while i < count {
+    for i in 0..count {
         let l = diagram_rows::single_at(m, 7, count, i);
         n = list_if(plan, n, i as u32, is_marked(marks, l));
-        i += 1;
     }
     n
 }
@@ -79,12 +77,10 @@ fn list_gates(
     let count = layout.a;
     let gates = layout.gates;
     let mut n = at;
-    let mut k = 0;
-    while k < count {
+    for k in 0..count {
         let g = memory::get(order, k);
         let l = diagram_rows::triple_at(m, gates, count, g as usize, 0);
         n = list_if(plan, n, g, is_marked(marks, l));
-        k += 1;
     }
     n
 }
@@ -96,14 +92,10 @@ fn number_latches(m: &[u32], layout: Layout, latches: &[u32], marks: &mut [u32])
     requires { Prepared m.now layout }
     ensures { marks.new ≡ P.numbered (circuit_in m.now) latches.now marks.old }
 {
-    let count = latches.len();
-    let mut k = 0;
-    while k < count {
-        let j = latches[k];
-        let l = diagram_rows::triple_at(m, layout.latches, layout.l, j as usize, 0);
+    for j in latches {
+        let l = diagram_rows::triple_at(m, layout.latches, layout.l, *j as usize, 0);
         let v = l.var();
-        memory::put(marks, v.0 as usize, ((j as u64 + 2) % 4294967296) as u32);
-        k += 1;
+        memory::put(marks, v.0 as usize, ((*j as u64 + 2) % 4294967296) as u32);
     }
 }
 
@@ -185,13 +177,10 @@ fn meet_latches(
         ≡ P.met_latches (circuit_in m.now) latches.now
         (P.meeting_of marks.old list.old from) }
 {
-    let count = latches.len();
     let mut n = from;
-    let mut k = 0;
-    while k < count {
-        let l = diagram_rows::triple_at(m, layout.latches, layout.l, latches[k] as usize, 0);
+    for j in latches {
+        let l = diagram_rows::triple_at(m, layout.latches, layout.l, *j as usize, 0);
         n = meet(marks, list, n, l);
-        k += 1;
     }
     n
 }
@@ -251,11 +240,9 @@ fn put_list(list: &[u32], n: usize, which: u32, plan: &mut [u32], at: usize)
     requires { (n ≤ 65536) × (at ≤ 65536) }
     ensures { plan.new ≡ sets plan.old at (P.turned (odd which) n list.now) }
 {
-    let mut k = 0;
-    while k < n {
+    for k in 0..n {
         let x = turned_at(list, n, which, k);
         memory::put(plan, at + k, x);
-        k += 1;
     }
 }
 
