@@ -45,7 +45,7 @@ pub struct Graph {
 }
 
 // A node, or its complement. The word of an edge of a graph has 32 bits; that of another edge may have 33.
-#[derive(Clone, Copy)]
+#[derive(Clone, Copy, PartialEq, Eq)]
 pub struct Edge(pub Node, pub bool);
 
 impl Edge {
@@ -59,7 +59,7 @@ impl Edge {
     pub fn word(self) -> u64
         ensures { result ≡ edge_word self }
     {
-        let k = self.0.0 as u64;
+        let k = u64::from(self.0.0);
         if self.1 { 2 * k + 1 } else { 2 * k }
     }
 
@@ -78,7 +78,7 @@ impl Edge {
     pub fn equals(self, e: Edge) -> bool
         ensures { result ≡ eqb (edge_word self) (edge_word e) }
     {
-        self.word() == e.word()
+        self == e
     }
 
     pub fn complement(self) -> Edge
