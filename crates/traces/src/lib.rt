@@ -20,6 +20,7 @@ pub fn walk(records: &[u32], width: usize, t: usize, e: usize, row: usize, trace
     trace[t + 1] = row as u32;
     let mut i = e;
     let mut u = t;
+    // A while: u counts down to frame 0 as i goes from record to record.
     while 0 < u {
         let at = stride * i;
         trace[u] = records[at + 3];
@@ -48,9 +49,7 @@ pub fn put_trace(trace: &[u32], free: usize, width: usize, n: usize, work: &mut 
     requires { (257 ≤ length trace.now) × (free ≤ 16) × (width ≤ 16) × (n ≤ free + width * 256) × (n ≤ length work.old) }
     ensures { (t x : ℕ) → Digits (2 ^ width) trace.now (suc t) x → n ≡ free + width * (t + 1) → FreeBits n x work.new }
 {
-    let mut j = 0;
-    while j < n {
+    for j in 0..n {
         work[j] = free_bit(trace, free, width, j);
-        j += 1;
     }
 }

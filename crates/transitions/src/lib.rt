@@ -70,9 +70,7 @@ fn pack(state: &[u64], kept: &[u32], p: u32) -> u32
     ensures { result ≡ number_of (map (λ j. bit (get_or state.now j 0) p) kept.now) }
 {
     let mut n: u64 = 0;
-    let mut i = kept.len();
-    while 0 < i {
-        i -= 1;
+    for i in (0..kept.len()).rev() {
         n = 2 * n + (state[kept[i] as usize] >> p) % 2;
     }
     n as u32
@@ -127,14 +125,10 @@ fn pack_words(state: &[u64], kept: &[u32], s: &mut [u32])
     ensures { number_at s.new 0 (length s.old)
         ≡ number_of (map (λ j. bit (get_or state.now j 0) 0) kept.now) }
 {
-    let n = s.len();
-    let count = kept.len();
-    let mut j = 0;
-    while j < n {
+    for j in 0..s.len() {
         let from = 32 * j;
-        let end = word_end(from, count);
+        let end = word_end(from, kept.len());
         s[j] = pack(state, &kept[from..end], 0);
-        j += 1;
     }
 }
 
