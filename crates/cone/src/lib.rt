@@ -16,11 +16,8 @@ fn start_marks(work: &mut [u32], g: Graph, top: Node)
     requires top_lt_nodes { top.0 < g.nodes }
     ensures { TopMarked work.old work.new g top.0 }
 {
-    let nodes = g.nodes;
-    let mut k = 0;
-    while k < nodes {
+    for k in 0..g.nodes {
         work[16 * k + MARK] = 0;
-        k += 1;
     }
     let t = top.0 as usize;
     work[16 * t + MARK] = 1;
@@ -49,9 +46,7 @@ pub fn mark(work: &mut [u32], g: Graph, root: Edge)
 {
     let top = root.0;
     start_marks(work, g, top);
-    let mut k = g.nodes;
-    while g.free + 1 < k {
-        k -= 1;
+    for k in (g.free + 1..g.nodes).rev() {
         mark_gate(work, k);
     }
 }
@@ -61,11 +56,8 @@ fn number_leaves(work: &mut [u32], g: Graph)
     requires { Sized g (length work.old) }
     ensures { LeavesNumbered work.old work.new g }
 {
-    let free = g.free;
-    let mut k = 0;
-    while k < free + 1 {
+    for k in 0..g.free + 1 {
         work[16 * k + NUMBER] = k as u32;
-        k += 1;
     }
 }
 
@@ -90,10 +82,8 @@ pub fn assign(work: &mut [u32], g: Graph) -> usize
     number_leaves(work, g);
     let first = g.free + 1;
     let mut next = first;
-    let mut k = first;
-    while k < g.nodes {
+    for k in first..g.nodes {
         next = number_gate(work, k, next);
-        k += 1;
     }
     next - first
 }

@@ -60,10 +60,8 @@ fn mark_words(m: &[u32], at: usize, n: usize, marks: &mut [u32])
     requires { Literals m.now at n (length marks.old) }
     ensures { marks.new ≡ mark_below (λ i. word m.now (at + i)) n marks.old }
 {
-    let mut i = 0;
-    while i < n {
+    for i in 0..n {
         mark(marks, var_at(m, at + i));
-        i += 1;
     }
 }
 
@@ -87,9 +85,7 @@ fn reach_down(m: &[u32], at: usize, n: usize, last: usize, marks: &mut [u32])
     requires { Rooms m.now at n last (length marks.old) }
     ensures { marks.new ≡ reach_down (λ i. gate_by m.now (at + 3 * i) last) n marks.old }
 {
-    let mut k = n;
-    while 0 < k {
-        k -= 1;
+    for k in (0..n).rev() {
         reach(m, at + 3 * k, last, marks);
     }
 }
@@ -125,12 +121,10 @@ fn are_closed(m: &[u32], at: usize, n: usize, last: usize, marks: &[u32]) -> boo
     requires { Rooms m.now at n last (length marks.now) }
     ensures { result ≡ every_below n (λ i. closed_at marks.now (gate_by m.now (at + 3 * i) last)) }
 {
-    let mut i = 0;
-    while i < n {
+    for i in 0..n {
         if !is_closed(m, at + 3 * i, last, marks) {
             return false;
         }
-        i += 1;
     }
     true
 }
@@ -140,12 +134,10 @@ fn are_marked(m: &[u32], at: usize, n: usize, marks: &[u32]) -> bool
     requires { Literals m.now at n (length marks.now) }
     ensures { result ≡ every_below n (λ i. marked marks.now (word m.now (at + i))) }
 {
-    let mut i = 0;
-    while i < n {
+    for i in 0..n {
         if !is_marked(marks, var_at(m, at + i)) {
             return false;
         }
-        i += 1;
     }
     true
 }
@@ -169,6 +161,7 @@ fn settle(m: &[u32], layout: Layout, order: &[u32], b: usize, marks: &mut [u32])
     requires b_bound { b < word m.now 5 }
     ensures { marks.new ≡ settle 129 (circuit_in m.now) b marks.old }
 {
+    // A while: it counts the rounds that are left, which is its measure.
     let mut left: usize = 129;
     while 0 < left {
         if is_settled(m, layout, order, b, marks) {
@@ -195,16 +188,13 @@ fn keep(
         × (drop result kept.new ≡ drop result kept.old) }
 {
     let latches = layout.latches;
-    let count = layout.l;
     let mut n = 0;
-    let mut j = 0;
-    while j < count {
+    for j in 0..layout.l {
         let marked = is_marked(marks, var_at(m, latches + 3 * j));
         if all | marked {
             kept[n] = j as u32;
             n += 1;
         }
-        j += 1;
     }
     n
 }

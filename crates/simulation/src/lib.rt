@@ -81,11 +81,8 @@ fn eval_gates(work: &mut [u32], g: Graph, first: usize)
     requires free_bound { g.free + 1 ≤ first }
     ensures { GatesEvaluated work.old work.new g first }
 {
-    let nodes = g.nodes;
-    let mut k = first;
-    while k < nodes {
+    for k in first..g.nodes {
         eval_gate(work, k);
-        k += 1;
     }
 }
 
@@ -103,11 +100,8 @@ fn clear_leaves(work: &mut [u32], g: Graph)
     requires { Netlist work.old g }
     ensures { LeavesCleared work.old work.new (g.free + 1) }
 {
-    let free = g.free;
-    let mut v = 0;
-    while v < free + 1 {
+    for v in 0..g.free + 1 {
         put_word(work, v, 0);
-        v += 1;
     }
 }
 
@@ -117,11 +111,9 @@ fn put_slots(work: &mut [u32], slots: &[u32], from: usize, to: usize, block: u64
     requires from_le_to { from ≤ to }
     ensures { SlotsPut work.old work.new slots.now from to block }
 {
-    let mut k = from;
-    while k < to {
+    for k in from..to {
         let v = slots[k] as usize;
         put_word(work, v, words::counting_word(k, block));
-        k += 1;
     }
 }
 
@@ -148,12 +140,10 @@ fn fill_slots(work: &[u32], g: Graph, slots: &mut [u32], from: usize, to: usize,
 {
     let free = g.free;
     let mut next = r;
-    let mut i = from;
-    while i < to {
+    for i in from..to {
         let v = free - i;
         let mark = work[16 * v + 10];
         next = take_slot(slots, next, v as u32, mark);
-        i += 1;
     }
     next
 }
@@ -189,14 +179,12 @@ fn first_use(work: &[u32], g: Graph, low: u32, end: usize) -> usize
     ensures { (result ≤ end) × UsedFrom work.now g low result }
 {
     let free = g.free as u32;
-    let mut k = g.free + 1;
-    while k < end {
+    for k in g.free + 1..end {
         if uses(work, k, low, free) {
             return k;
         }
-        k += 1;
     }
-    k
+    end
 }
 
 // For each slot, a node up to which no gate uses it or an earlier slot.
@@ -206,11 +194,9 @@ fn fill_firsts(work: &[u32], g: Graph, slots: &[u32], count: usize, firsts: &mut
     ensures { Firsts work.now g slots.now count firsts.new }
 {
     let mut end = g.nodes;
-    let mut k = 0;
-    while k < count {
+    for k in 0..count {
         end = first_use(work, g, slots[k], end);
         firsts[k] = end as u32;
-        k += 1;
     }
 }
 
@@ -221,6 +207,7 @@ fn carry(block: u64) -> usize
 {
     let mut b = block;
     let mut i = 0;
+    // A while: the block's bits say where it ends.
     while b % 2 == 1 {
         b = b / 2;
         i += 1;
@@ -311,6 +298,7 @@ fn scan(
 {
     let mut block = from.number;
     let mut hits = from.hits;
+    // A while: the last block, which may be cut off, is left to the end, and its number with its hits.
     while 64 * block + 64 < total {
         if hits != 0 {
             return first_in(block, hits, total);
@@ -326,10 +314,8 @@ fn clear_front(work: &mut [u32], n: usize)
     requires { n ≤ length work.old }
     ensures { (j : ℕ) → j < n → get_or work.new j 0 ≡ 0 }
 {
-    let mut j = 0;
-    while j < n {
+    for j in 0..n {
         work[j] = 0;
-        j += 1;
     }
 }
 
@@ -339,11 +325,9 @@ fn put_bits(work: &mut [u32], slots: &[u32], count: usize, y: u64)
     requires by_index { (k : ℕ) → k < count → 1 ≤ get_or slots.now k 0 }
     ensures { BitsPut work.old work.new slots.now count y }
 {
-    let mut k = 0;
-    while k < count {
+    for k in 0..count {
         let v = slots[k] as usize;
         work[v - 1] = places::bit_of(y, k);
-        k += 1;
     }
 }
 
@@ -351,7 +335,7 @@ fn put_bits(work: &mut [u32], slots: &[u32], count: usize, y: u64)
 fn slot_count(r: usize) -> usize
     ensures { result ≡ min r 32 }
 {
-    if r < 32 { r } else { 32 }
+    r.min(32)
 }
 
 // How many whole blocks lie below place `from`: all but the last of those whose places are below 2 to the power 32, where it is not below.
