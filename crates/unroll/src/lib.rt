@@ -97,16 +97,13 @@ fn put_starts(m: &[u32], layout: Layout, map: &mut [u32])
     ensures { Written (latch_var m.now layout.latches) (start_word m.now layout.latches) layout.l
         map.old map.new }
 {
-    let count = layout.l;
     let latches = layout.latches;
     let mut next = 0;
-    let mut j = 0;
-    while j < count {
+    for j in 0..layout.l {
         let lit = Lit::from_word(m[latches + 3 * j]);
         let reset = Lit::from_word(m[latches + 3 * j + 2]);
         put_edge(map, lit.var(), start_edge(lit, reset, next));
         next += layout::free_start(lit, reset);
-        j += 1;
     }
 }
 
@@ -116,12 +113,9 @@ fn put_inputs(m: &[u32], layout: Layout, first: usize, map: &mut [u32])
     requires i_bound { first + layout.i ≤ 65536 }
     ensures { Written (input_var m.now) (input_word first) layout.i map.old map.new }
 {
-    let count = layout.i;
-    let mut i = 0;
-    while i < count {
+    for i in 0..layout.i {
         let l = Lit::from_word(m[7 + i]);
         put_edge(map, l.var(), free_edge(first + i));
-        i += 1;
     }
 }
 
@@ -155,14 +149,11 @@ fn put_gates(
     ensures { GatesMapped (circuit_in m.now) g.free work.old g map.old work.new result
         map.new }
 {
-    let count = layout.a;
     let gates = layout.gates;
     let mut graph = g;
-    let mut k = 0;
-    while k < count {
+    for k in 0..layout.a {
         let i = order[k] as usize;
         graph = put_gate(work, graph, m, gates + 3 * i, map);
-        k += 1;
     }
     graph
 }
@@ -173,13 +164,10 @@ fn next_state(m: &[u32], layout: Layout, map: &[u32], state: &mut [u32])
     requires in_bounds { 1024 ≤ length state.old }
     ensures { (j : ℕ) → j < layout.l → get_or state.new j 0 ≡ next_word m.now layout.latches map.now j }
 {
-    let count = layout.l;
     let latches = layout.latches;
-    let mut j = 0;
-    while j < count {
+    for j in 0..layout.l {
         let e = edge_of(map, Lit::from_word(m[latches + 3 * j + 1]));
         state[j] = e.word() as u32;
-        j += 1;
     }
 }
 
@@ -190,13 +178,10 @@ fn put_state(m: &[u32], layout: Layout, state: &[u32], map: &mut [u32])
     ensures { Written (latch_var m.now layout.latches) (λ j. get_or state.now j 0) layout.l map.old
         map.new }
 {
-    let count = layout.l;
     let latches = layout.latches;
-    let mut j = 0;
-    while j < count {
+    for j in 0..layout.l {
         let l = Lit::from_word(m[latches + 3 * j]);
         put_edge(map, l.var(), Edge::from_word(state[j]));
-        j += 1;
     }
 }
 
@@ -219,17 +204,14 @@ fn constrain(work: &mut [u32], g: Graph, m: &[u32], layout: Layout, from: Edge, 
     requires from_lt_nodes { from.0.0 < g.nodes }
     ensures { ConstrainedMapped (circuit_in m.now) from g.free work.old g map.now work.new result }
 {
-    let count = layout.c;
     let constraints = layout.constraints;
     let mut graph = g;
     let mut left = from;
-    let mut done = 0;
-    while done < count {
+    for done in 0..layout.c {
         let e = edge_of(map, Lit::from_word(m[constraints + done]));
         let made = graph::make(work, graph, left, e);
         graph = made.graph;
         left = made.edge;
-        done += 1;
     }
     Made { graph, edge: left }
 }
@@ -346,13 +328,10 @@ fn put_frames(
     let mut state = [0u32; 1024];
     let starts = layout.u;
     let inputs = layout.i;
-    let t = aim.t;
     let mut made = first;
-    let mut u = 0;
-    while u < t {
+    for u in 0..aim.t {
         let kept = bar_edge(work, made, m, layout, aim, map);
-        u += 1;
-        put_leaves(m, layout, starts + inputs * u, &mut state, map);
+        put_leaves(m, layout, starts + inputs * (u + 1), &mut state, map);
         made = put_frame(work, kept, m, layout, order, map);
     }
     made
