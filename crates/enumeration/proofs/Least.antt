@@ -63,6 +63,14 @@ from_start {p} {n} {r} f =
       here = λ l. and (leb 0 r) (p r) (le→leb 0 r (omega arith)) (f.here l);
     }
 
+pub from_zero : {p : ℕ → Bool} {n r : ℕ} → First (onward 0 p) n r → First p n r
+from_zero {p} {n} {r} f =
+    record {
+      within = f.within;
+      before = λ x l t. f.before x l (and (leb 0 x) (p x) (le→leb 0 x (omega arith)) t);
+      here = λ l. and_right (leb 0 r) (p r) (f.here l);
+    }
+
 module _ (p : ℕ → Bool) (places lo D : ℕ) {r : ℕ} (f : First (onward lo p) (min places (lo + D)) r) where
   abbrev total : ℕ
   total = min places (lo + D)

@@ -2,3 +2,4 @@ pub mod Stores
 pub mod Blocks
 pub mod Least
 pub mod Laws
+pub mod Onward

@@ -1,5 +1,5 @@
 -- What the private functions do: the words of a block of 64 sequences, and the first number that passes. Assumes nothing.
-use Rattle.std.specs.Prelude.{◌≡◌, Bool, ◌&&◌, List, ℕ, ◌+◌, ◌*◌, ◌≤◌, ◌<◌, T, length, get_or}
+use Rattle.std.specs.Prelude.{◌≡◌, Bool, ◌&&◌, List, ℕ, ◌+◌, ◌*◌, ◌≤◌, ◌<◌, T, leb, length, get_or}
 use Rattle.aiger.specs.Bits.{bit}
 use Rattle.aiger.specs.Circuit.{Circuit, var}
 use Rattle.aiger.specs.Frames.{free_bit}
@@ -44,6 +44,10 @@ pub record NextFrame (c : Circuit) (top block from : ℕ) (before values : List 
   pub inputs : InputsGiven c top block moved filled
   pub evaluated : Evaluated c filled values
   pub constrained : Constrained c from values left
+
+-- a word of a block of 64 places without the places before lo
+abbrev pub Onward : ℕ → ℕ → ℕ → ℕ → Type 0
+Onward hits block lo r = (p : ℕ) → p < 64 → bit r p ≡ (leb lo (block * 64 + p) && bit hits p)
 
 -- r is the least number below total that passes, or total
 pub record First (passes : ℕ → Bool) (total r : ℕ) : Type 0 where

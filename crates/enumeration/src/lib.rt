@@ -5,7 +5,7 @@ ghost use Rattle.std.specs.Prelude.{◌≡◌, cond, ℕ, ◌+◌, ◌*◌, ◌�
 ghost use Rattle.aiger.specs.Bits.{bit};
 ghost use Rattle.aiger.specs.Circuit.{var};
 ghost use Rattle.aiger.specs.Frames.{free_bits, free_starts, free_bit};
-ghost use Rattle.aiger.specs.Search.{reaches};
+ghost use Rattle.aiger.specs.Search.{reaches, onward};
 ghost use Rattle.aiger.specs.Memory.{Holds};
 ghost use Rattle.literals.specs.Literal.{word_of};
 ghost use Rattle.layout.specs.Words.{word, circuit_in};
@@ -13,7 +13,7 @@ ghost use Rattle.layout.specs.Layout.{LayoutOf};
 ghost use Rattle.meaning.specs.Frame.{input_at, latch_at};
 ghost use Rattle.frames.specs.Lanes.{Ready};
 ghost use Rattle.frames.specs.Starts.{start_bit};
-ghost use Rattle.enumeration.specs.Blocks.{Given, FirstFrame, NextFrame, First};
+ghost use Rattle.enumeration.specs.Blocks.{Given, FirstFrame, NextFrame, First, Onward};
 ghost use Rattle.enumeration.specs.Frame.{FreeBits, FrameIs};
 
 use layout::Layout;
@@ -34,6 +34,13 @@ pub struct Question {
     pub t: usize,
     pub n: usize,
     pub free: usize,
+}
+
+// The places from `from` up to `to`.
+#[derive(Clone, Copy)]
+pub struct Span {
+    pub from: u64,
+    pub to: u64,
 }
 
 // The number of a block of 64 sequences, and how many of their free bits are left for the inputs from a frame on.
@@ -185,29 +192,62 @@ pub fn put_free(x: u64, n: usize, free: &mut [u32])
     }
 }
 
-// The first sequence below total that hits, or total. values and state are scratch.
-fn scan_blocks(
+// The word of a block of 64 places without the places before lo.
+fn onward_word(hits: u64, block: u64, lo: u64) -> u64
+    requires { block ≤ 144115188075855872 }
+    ensures { Onward hits block lo result }
+{
+    let first = 64 * block;
+    if lo <= first {
+        return hits;
+    }
+    let q = lo - first;
+    if 63 < q {
+        return 0;
+    }
+    let size = 1u64 << q;
+    hits / size * size
+}
+
+// The first place of the span that hits, or its end. values and state are scratch.
+fn scan_span(
     m: &[u32],
     layout: Layout,
     order: &[u32],
     q: Question,
-    total: u64,
+    span: Span,
     values: &mut [u64],
     state: &mut [u64],
 ) -> u64
     requires ready { Ready m.now layout order.now (length values.old) }
-    requires b_bound { (q.b < word m.now 5) × (1024 ≤ length state.old) × (total ≤ 4294967296) }
+    requires b_bound { (q.b < word m.now 5) × (1024 ≤ length state.old) × (span.to ≤ 9223372036854775808)
+        × (span.from ≤ 9223372036854775808) }
     requires n_value { (q.n ≡ free_bits (circuit_in m.now) q.t) × (q.free ≡ free_starts (circuit_in m.now)) }
-    ensures { First (reaches (circuit_in m.now) q.b q.t) total result }
+    ensures { First (onward span.from (reaches (circuit_in m.now) q.b q.t)) span.to result }
 {
-    for block in 0..total.div_ceil(64) {
-        let hits = block_hits(m, layout, order, q, block, values, state);
+    let from = span.from;
+    let total = span.to;
+    for block in from / 64..total.div_ceil(64) {
+        let all = block_hits(m, layout, order, q, block, values, state);
+        let hits = onward_word(all, block, from);
         let p = u64::from(words::first_difference(hits, 0));
         if p < 64 {
             return total.min(64 * block + p);
         }
     }
     total
+}
+
+// The first place of the span that hits, or its end.
+pub fn first_in(m: &[u32], layout: Layout, order: &[u32], q: Question, span: Span) -> u64
+    requires ready { Ready m.now layout order.now 4097 }
+    requires b_bound { (q.b < word m.now 5) × (span.to ≤ 9223372036854775808) × (span.from ≤ 9223372036854775808) }
+    requires n_value { (q.n ≡ free_bits (circuit_in m.now) q.t) × (q.free ≡ free_starts (circuit_in m.now)) }
+    ensures { First (onward span.from (reaches (circuit_in m.now) q.b q.t)) span.to result }
+{
+    let mut values = [0u64; 4097];
+    let mut state = [0u64; 1024];
+    scan_span(m, layout, order, q, span, &mut values, &mut state)
 }
 
 // The first sequence below total that hits, or total.
@@ -217,9 +257,8 @@ fn first_below(m: &[u32], layout: Layout, order: &[u32], q: Question, total: u64
     requires n_value { (q.n ≡ free_bits (circuit_in m.now) q.t) × (q.free ≡ free_starts (circuit_in m.now)) }
     ensures { First (reaches (circuit_in m.now) q.b q.t) total result }
 {
-    let mut values = [0u64; 4097];
-    let mut state = [0u64; 1024];
-    scan_blocks(m, layout, order, q, total, &mut values, &mut state)
+    let all = Span { from: 0, to: total };
+    first_in(m, layout, order, q, all)
 }
 
 // The first hit of b at frame t. Where there is one its free bits are left at the front of working memory.

@@ -1,6 +1,5 @@
 -- What the enumeration of one frame from a place answers and leaves. Assumes nothing.
-use Rattle.std.specs.Prelude.{◌≡◌, Bool, ◌&&◌, List, ℕ, ◌+◌, ◌*◌, ◌^◌, ◌≤◌, ◌<◌, leb, length}
-use Rattle.aiger.specs.Bits.{bit}
+use Rattle.std.specs.Prelude.{◌≡◌, List, ℕ, ◌^◌, ◌≤◌, ◌<◌, length}
 use Rattle.aiger.specs.Circuit.{Circuit}
 use Rattle.aiger.specs.Frames.{free_bits}
 use Rattle.aiger.specs.Search.{Decision, reaches}
@@ -15,10 +14,6 @@ use Rattle.enumeration.specs.declared.Frame.TheVariants.{Hit, Clear, Spent}
 -- what is decided of frame t from place lo on, where D sequences are tried
 abbrev pub decision_from : Circuit → ℕ → ℕ → ℕ → ℕ → Decision
 decision_from c b t lo D = decision (reaches c b t) (2 ^ free_bits c t) lo D
-
--- a word of a block of 64 places without the places before lo
-abbrev pub Onward : ℕ → ℕ → ℕ → ℕ → Type 0
-Onward hits block lo r = (p : ℕ) → p < 64 → bit r p ≡ (leb lo (block * 64 + p) && bit hits p)
 
 -- a circuit in memory m that is ready to be evaluated, and a frame, a place and a budget that are right
 pub record PlaceFits (work m : List ℕ) (layout : Layout) (order : List ℕ) (b t lo D : ℕ) : Type 0 where

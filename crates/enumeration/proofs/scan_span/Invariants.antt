@@ -1,7 +1,7 @@
 use Rattle.std.proofs.Common.{ℕ, ◌<◌, ◌*◌, T}
 use Rattle.aiger.specs.Search.{onward, reaches}
 use Rattle.layout.specs.Words.{circuit_in}
-use Rattle.place_enumeration.proofs.scan_span.Given as goal
+use Rattle.enumeration.proofs.scan_span.Given as goal
 
 -- no place of an earlier block hits
 abbrev pub invariant-loop-block : goal.invariant-loop-block

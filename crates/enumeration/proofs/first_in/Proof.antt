@@ -1,8 +1,8 @@
--- `place_enumeration::first_in` meets its contract. Assumes nothing.
+-- `enumeration::first_in` meets its contract. Assumes nothing.
 use native.Mathlib.Omega.{arith}
 use borrow.Author.Rules.{rules}
-use Rattle.place_enumeration.proofs.first_in.Statement.{statement}
-use Rattle.place_enumeration.proofs.first_in.Tie as tie
+use Rattle.enumeration.proofs.first_in.Statement.{statement}
+use Rattle.enumeration.proofs.first_in.Tie as tie
 
 scan-span-requires : tie.Need-scan_span-requires
 scan-span-requires c κs =

@@ -1,11 +1,11 @@
--- `place_enumeration::scan_span`: no place of an earlier block hits. Assumes nothing.
+-- `enumeration::scan_span`: no place of an earlier block hits. Assumes nothing.
 use Rattle.std.proofs.Common.{◌≡◌, ◌+◌, ◌*◌, arith}
 use Rattle.aiger.specs.Search.{onward, reaches}
 use Rattle.layout.specs.Words.{circuit_in}
 use Rattle.frames.proofs.Facts.{ready_with}
 use Rattle.enumeration.proofs.Least.{block-before, block_here}
-use Rattle.place_enumeration.proofs.Blocks.{onward-each, none_before}
-use Rattle.place_enumeration.proofs.scan_span.Goals as goal
+use Rattle.enumeration.proofs.Onward.{onward-each, none_before}
+use Rattle.enumeration.proofs.scan_span.Goals as goal
 
 pub loop-block-init : goal.loop-block-init
 loop-block-init c =

@@ -1,13 +1,13 @@
--- `place_enumeration::onward_word` meets its contract. Assumes nothing.
+-- `enumeration::onward_word` meets its contract. Assumes nothing.
 use mathlib.Core.Path.{◌≡◌, sym, ap, subst}
 use Prim.Native.Nat.{ℕ, ◌+◌, ◌-◌, ◌*◌, ◌/◌, ◌%◌, ◌^◌, ◌≤◌}
 use native.Mathlib.Omega.{arith}
 use lib.Pow.{pow_mono, pow_pos}
-use Rattle.place_enumeration.specs.From.{Onward}
-use Rattle.place_enumeration.proofs.Blocks.{onward-all, onward-none, size-some, size-part, onward-size}
+use Rattle.enumeration.specs.Blocks.{Onward}
+use Rattle.enumeration.proofs.Onward.{onward-all, onward-none, size-some, size-part, onward-size}
 use borrow.Author.Rules.{rules}
-use Rattle.place_enumeration.proofs.onward_word.Statement.{statement}
-use Rattle.place_enumeration.proofs.onward_word.Tie as tie
+use Rattle.enumeration.proofs.onward_word.Statement.{statement}
+use Rattle.enumeration.proofs.onward_word.Tie as tie
 
 mul-first : tie.Need-overflow_mul-first
 mul-first c = omega (arith, c.requires)
