@@ -73,12 +73,10 @@ fn up(work: &mut [u32], nodes: u32, i: u32, v: u32, n: u32)
     ensures { work.new ≡ Hp.upped work.old nodes v i n }
 {
     let mut at = i;
-    let mut left = n;
-    while 0 < left {
+    for _ in 0..n {
         if is_above(work, nodes, at, v) {
             lower(work, nodes, at);
             at = parent(at);
-            left -= 1;
         } else {
             seat(work, nodes, at, v);
             return;
@@ -136,13 +134,11 @@ fn down(work: &mut [u32], nodes: u32, size: u32, v: u32, n: u32)
     ensures { work.new ≡ Hp.downed work.old nodes size v 0 n }
 {
     let mut at = 0;
-    let mut left = n;
-    while 0 < left {
+    for _ in 0..n {
         let c = larger(work, nodes, size, child(at));
         if is_below(work, nodes, size, c, v) {
             lift(work, nodes, at, c);
             at = c;
-            left -= 1;
         } else {
             seat(work, nodes, at, v);
             return;
@@ -182,7 +178,7 @@ pub fn rise(work: &mut [u32], nodes: u32, heap: Heap, v: u32) -> Heap
     up(work, nodes, heap.size, v, 32);
     Heap {
         size: heap.size + 1,
-        step: heap.step,
+        ..heap
     }
 }
 
@@ -191,16 +187,13 @@ fn drop_top(work: &mut [u32], nodes: u32, heap: Heap) -> Heap
     ensures { Hp.Left work.new result (Hp.dropped work.old nodes heap) }
 {
     if heap.size <= 1 {
-        return Heap {
-            size: 0,
-            step: heap.step,
-        };
+        return Heap { size: 0, ..heap };
     }
     let x = at_place(work, nodes, heap.size - 1);
     down(work, nodes, heap.size - 1, x, 32);
     Heap {
         size: heap.size - 1,
-        step: heap.step,
+        ..heap
     }
 }
 
@@ -209,14 +202,12 @@ pub fn skim(work: &mut [u32], nodes: u32, heap: Heap, n: u32) -> Heap
     ensures { Hp.Left work.new result (Hp.skimmed work.old nodes heap n) }
 {
     let mut h = heap;
-    let mut left = n;
-    while 0 < left {
+    for _ in 0..n {
         let x = at_place(work, nodes, 0);
         if field(work, nodes, x, VAL) == 2 {
             return h;
         }
         h = drop_top(work, nodes, h);
-        left -= 1;
     }
     h
 }
@@ -225,11 +216,9 @@ pub fn skim(work: &mut [u32], nodes: u32, heap: Heap, n: u32) -> Heap
 fn scale(work: &mut [u32], nodes: u32, n: u32)
     ensures { work.new ≡ Hp.scaled work.old nodes n }
 {
-    let mut left = n;
-    while 0 < left {
-        left -= 1;
-        let x = field(work, nodes, left, ACT);
-        set_field(work, nodes, left, ACT, x / 1048576);
+    for v in (0..n).rev() {
+        let x = field(work, nodes, v, ACT);
+        set_field(work, nodes, v, ACT, x / 1048576);
     }
 }
 
@@ -239,14 +228,14 @@ pub fn cool(work: &mut [u32], nodes: u32, heap: Heap) -> Heap
 {
     if heap.step < 268435456 {
         return Heap {
-            size: heap.size,
             step: heap.step + heap.step / 10 + 1,
+            ..heap
         };
     }
     scale(work, nodes, nodes);
     Heap {
-        size: heap.size,
         step: heap.step / 1048576 + 1,
+        ..heap
     }
 }
 
@@ -275,10 +264,8 @@ pub fn restore(work: &mut [u32], net: Netlist, heap: Heap, from: u32, n: u32) ->
     ensures { Hp.Left work.new result (Hp.restored work.old net heap from n) }
 {
     let mut h = heap;
-    let mut left = n;
-    while from < left {
-        left -= 1;
-        let v = field(work, net.nodes, left, TRAIL) / 2;
+    for t in (from..n).rev() {
+        let v = field(work, net.nodes, t, TRAIL) / 2;
         h = admit(work, net, h, v);
     }
     h

@@ -119,7 +119,7 @@ highest w net arena n =
     ranked_all w net arena (n - 2) (ranked_two w net.nodes (draft_at w net arena (n - 1)) (draft_at w net arena (n - 2)))
 
 unfoldable pub target : List ℕ → ℕ → ℕ → ℕ → ℕ
-target w nodes o level = cond (ltb (field w nodes (o / 2) 6) level) (field w nodes (o / 2) 6) (cond (eqb level 0) 0 (level - 1))
+target w nodes o level = cond (ltb (field w nodes (o / 2) 6) level) (field w nodes (o / 2) 6) (level - 1)
 
 unfoldable pub watched : List ℕ → Netlist → Search → ℕ → ℕ → Searched
 watched w net s l o =

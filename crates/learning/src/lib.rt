@@ -46,42 +46,32 @@ struct TopTwo {
 pub fn with_trail(s: Search, t: State) -> Search
     ensures { result ≡ Ln.with_trail s t }
 {
-    let mut u = s;
-    u.trail = t;
-    u
+    Search { trail: t, ..s }
 }
 
 fn with_arena(s: Search, a: Arena) -> Search
     ensures { result ≡ Ln.with_arena s a }
 {
-    let mut u = s;
-    u.arena = a;
-    u
+    Search { arena: a, ..s }
 }
 
 pub fn with_heap(s: Search, h: Heap) -> Search
     ensures { result ≡ Ln.with_heap s h }
 {
-    let mut u = s;
-    u.heap = h;
-    u
+    Search { heap: h, ..s }
 }
 
 pub fn with_order(s: Search, o: Order) -> Search
     ensures { result ≡ Ln.with_order s o }
 {
-    let mut u = s;
-    u.order = o;
-    u
+    Search { order: o, ..s }
 }
 
 // No free bit is known to have the floor's value.
 fn none_agreed(o: Order) -> Order
     ensures { result ≡ Ln.none_agreed o }
 {
-    let mut u = o;
-    u.agreed = 0;
-    u
+    Order { agreed: 0, ..o }
 }
 
 // Back to level `to`.
@@ -106,9 +96,7 @@ pub fn retreat(work: &mut [u32], net: Netlist, s: Search, to: u32) -> Search
 fn all_settled(o: Order, n: u32) -> Order
     ensures { result ≡ Ln.all_settled o n }
 {
-    let mut u = o;
-    u.settled = n;
-    u
+    Order { settled: n, ..o }
 }
 
 // At level 0, literals of the trail are fixed.
@@ -188,10 +176,8 @@ fn highest(work: &[u32], net: Netlist, arena: Arena, n: u32) -> TopTwo
     let a = literal(work, net.nodes, arena.used, n - 1);
     let b = literal(work, net.nodes, arena.used, n - 2);
     let mut best = rank_two(work, net.nodes, a, b);
-    let mut left = n - 2;
-    while 0 < left {
-        left -= 1;
-        let l = literal(work, net.nodes, arena.used, left);
+    for i in (0..n - 2).rev() {
+        let l = literal(work, net.nodes, arena.used, i);
         best = rank(work, net.nodes, best, l);
     }
     best
@@ -205,7 +191,7 @@ fn target(work: &[u32], nodes: u32, o: u32, level: u32) -> u32
     if to < level {
         return to;
     }
-    if level == 0 { 0 } else { level - 1 }
+    level.saturating_sub(1)
 }
 
 // The last kept clause watches literals l and o, and implies l.

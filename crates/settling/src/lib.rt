@@ -39,13 +39,8 @@ fn follow(work: &mut [u32], net: Netlist, arena: Arena, s: State) -> State
 {
     let l = field(work, net.nodes, s.next, TRAIL);
     let t = State {
-        length: s.length,
         next: successor(s.next),
-        level: s.level,
-        ticks: s.ticks,
-        clash: s.clash,
-        clause: s.clause,
-        link: s.link,
+        ..s
     };
     through(work, net, arena, t, l)
 }
@@ -55,8 +50,7 @@ pub fn propagate(work: &mut [u32], net: Netlist, arena: Arena, s: State, n: u32)
     ensures { T.Left work.new result (S.propagated work.old net arena s n) }
 {
     let mut t = s;
-    let mut left = n;
-    while 0 < left {
+    for _ in 0..n {
         if t.length <= t.next {
             return t;
         }
@@ -64,7 +58,6 @@ pub fn propagate(work: &mut [u32], net: Netlist, arena: Arena, s: State, n: u32)
             return t;
         }
         t = follow(work, net, arena, t);
-        left -= 1;
     }
     t
 }
@@ -83,9 +76,7 @@ fn settle_one(work: &mut [u32], net: Netlist, arena: Arena, t: u32)
 pub fn settle_all(work: &mut [u32], net: Netlist, arena: Arena, from: u32, n: u32)
     ensures { work.new ≡ S.settled_from work.old net arena from (n - from) }
 {
-    let mut t = from;
-    while t < n {
+    for t in from..n {
         settle_one(work, net, arena, t);
-        t += 1;
     }
 }

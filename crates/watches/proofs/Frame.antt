@@ -17,8 +17,7 @@ use Rattle.trail.specs.declared.State.{State}
 use Rattle.trail.specs.Trail.{Stood, stood, value, assigned}
 use Rattle.trail.proofs.Frame.{same_step, assign-same}
 use Rattle.watches.proofs.Turns.{side-two}
-use Rattle.watches.specs.declared.Replacement.{Replacement}
-use Rattle.watches.specs.declared.Replacement.TheVariants.{Literal, Absent}
+use Rattle.std.specs.Prelude.{Option, Some, None}
 use Rattle.watches.specs.Watch.{side, partner, following, found, linked, at, passed, rewatched, clashed, closed, chosen, turned_by, turned, stepped, walked, first, visited}
 
 module _ (net : Netlist) (arena : Arena) (room : 14 * net.nodes + arena.used + 6 * arena.count ≤ net.words) where
@@ -59,9 +58,9 @@ module _ (net : Netlist) (arena : Arena) (room : 14 * net.nodes + arena.used + 6
       same_step net arena room w (eqb (value w net.nodes o) 1) (stood w (passed w net.words t s)) (chosen w net arena t f s o x)
       (same_refl net arena w) (go o x)
     where
-      go : (o : ℕ) (x : Replacement) → Same net arena w (chosen w net arena t f s o x).words
-      go o (Literal x) = rewatch-same w t f s x l h
-      go o Absent = close-same w t o s
+      go : (o : ℕ) (x : Option ℕ) → Same net arena w (chosen w net arena t f s o x).words
+      go o (Some x) = rewatch-same w t f s x l h
+      go o None = close-same w t o s
 
   step_same : (w : List ℕ) (t : State) (f : ℕ) → Same net arena w (stepped w net arena t f).words
   unfolding stepped

@@ -12,7 +12,7 @@ use Rattle.memory.specs.declared.Arena.{Arena}
 use Rattle.reasons.specs.Reason.{kept_literal}
 use Rattle.trail.specs.declared.State.{State}
 use Rattle.trail.specs.Trail.{stood}
-use Rattle.watches.specs.declared.Replacement.TheVariants.{Literal, Absent}
+use Rattle.std.specs.Prelude.{Some, None}
 use Rattle.watches.specs.Watch.{side, can_watch, found, stepped, walked}
 
 pred : (n : ℕ) → n ≡ suc n - 1
@@ -28,19 +28,19 @@ side-two w words c f = go (eqb (head w words c 5) f)
     go false = omega arith
 
 module _ (w : List ℕ) (net : Netlist) (c o : ℕ) where
-  pub found_none : (n : ℕ) → n ≡ 0 → found w net c o n ≡ Absent
+  pub found_none : (n : ℕ) → n ≡ 0 → found w net c o n ≡ None
   unfolding found
   found_none zero e = refl
   found_none (suc n) e = absurd (omega arith)
 
-  pub found_here : (n : ℕ) → 0 < n → can_watch w net.nodes (kept_literal w net c (n - 1)) o ≡ true → found w net c o n ≡ Literal
+  pub found_here : (n : ℕ) → 0 < n → can_watch w net.nodes (kept_literal w net c (n - 1)) o ≡ true → found w net c o n ≡ Some
       (kept_literal w net c (n - 1))
   unfolding found
   found_here zero l e = absurd (omega arith)
   found_here (suc n) l e =
       let p = ap (kept_literal w net c) (pred n) in
       let q = ap (λ (x : ℕ). can_watch w net.nodes x o) p in
-      rw (q, e) (ap (λ (x : ℕ). Literal x) p)
+      rw (q, e) (ap (λ (x : ℕ). Some x) p)
 
   pub found-more : (n : ℕ) → 0 < n → can_watch w net.nodes (kept_literal w net c (n - 1)) o ≡ false → found w net c o n ≡ found w net c o (n - 1)
   unfolding found

@@ -1,5 +1,5 @@
 -- Visits of the clauses that watch a literal, as functions of the words. Assumes nothing.
-use Rattle.std.specs.Prelude.{Bool, false, cond, List, ℕ, zero, suc, ◌+◌, ◌-◌, ◌*◌, ◌/◌, ◌%◌, eqb, leb, ltb}
+use Rattle.std.specs.Prelude.{Bool, false, cond, Option, Some, None, List, ℕ, zero, suc, ◌+◌, ◌-◌, ◌*◌, ◌/◌, ◌%◌, eqb, leb, ltb}
 use Rattle.memory.specs.Record.{undef, field, stored, head, headed}
 use Rattle.memory.specs.declared.Netlist.{Netlist}
 use Rattle.memory.specs.declared.Arena.{Arena}
@@ -7,8 +7,6 @@ use Rattle.reasons.specs.Reason.{kept_literal}
 use Rattle.kept.specs.Kept.{attached}
 use Rattle.trail.specs.declared.State.{State}
 use Rattle.trail.specs.Trail.{Stood, stood, value, assigned}
-use Rattle.watches.specs.declared.Replacement.{Replacement}
-use Rattle.watches.specs.declared.Replacement.TheVariants.{Literal, Absent}
 
 unfoldable pub side : List ℕ → ℕ → ℕ → ℕ → ℕ
 side w words c f = cond (eqb (head w words c 5) f) 1 0
@@ -24,9 +22,9 @@ unfoldable pub can_watch : List ℕ → ℕ → ℕ → ℕ → Bool
 can_watch w nodes x o = cond (eqb x o) false (leb 1 (value w nodes x))
 
 -- among the first n literals of clause c, the last that can be watched beside o
-unfoldable pub found : List ℕ → Netlist → ℕ → ℕ → ℕ → Replacement
-found w net c o zero = Absent
-found w net c o (suc n) = cond (can_watch w net.nodes (kept_literal w net c n) o) (Literal (kept_literal w net c n)) (found w net c o n)
+unfoldable pub found : List ℕ → Netlist → ℕ → ℕ → ℕ → Option ℕ
+found w net c o zero = None
+found w net c o (suc n) = cond (can_watch w net.nodes (kept_literal w net c n) o) (Some (kept_literal w net c n)) (found w net c o n)
 
 unfoldable pub linked : List ℕ → Netlist → Arena → ℕ → ℕ → ℕ → List ℕ
 linked w net arena f from x =
@@ -74,9 +72,9 @@ closed w net t o s =
     (assigned w net (passed w net.words t s) o (4 * t.clause + 3))
 
 -- by the other literal o that the clause watches, and by the literal that it may watch instead
-unfoldable pub chosen : List ℕ → Netlist → Arena → State → ℕ → ℕ → ℕ → Replacement → Stood
-chosen w net arena t f s o (Literal x) = rewatched w net arena t f s x
-chosen w net arena t f s o Absent = closed w net t o s
+unfoldable pub chosen : List ℕ → Netlist → Arena → State → ℕ → ℕ → ℕ → Option ℕ → Stood
+chosen w net arena t f s o (Some x) = rewatched w net arena t f s x
+chosen w net arena t f s o None = closed w net t o s
 
 unfoldable pub turned_by : List ℕ → Netlist → Arena → State → ℕ → ℕ → ℕ → Stood
 turned_by w net arena t f s o =

@@ -11,13 +11,6 @@ use memory::{Arena, Netlist, UNDEF, field, head, set_field, set_head};
 use reasons::kept_literal;
 use trail::{State, assign, value};
 
-// The literal that a clause watches instead of a false one, if it has such a literal.
-#[derive(Clone, Copy)]
-enum Replacement {
-    Literal(u32),
-    Absent,
-}
-
 // Which of its two watches clause c has on literal f.
 fn side(work: &[u32], words: u32, c: u32, f: u32) -> u8
     ensures { result ≡ W.side work.now words c f }
@@ -58,18 +51,16 @@ fn can_watch(work: &[u32], nodes: u32, x: u32, o: u32) -> bool
 }
 
 // A literal of clause c, among its first n, that is not false and not o.
-fn find(work: &[u32], net: Netlist, c: u32, o: u32, n: u32) -> Replacement
+fn find(work: &[u32], net: Netlist, c: u32, o: u32, n: u32) -> Option<u32>
     ensures { result ≡ W.found work.now net c o n }
 {
-    let mut left = n;
-    while 0 < left {
-        left -= 1;
-        let x = kept_literal(work, net, c, left);
+    for i in (0..n).rev() {
+        let x = kept_literal(work, net, c, i);
         if can_watch(work, net.nodes, x, o) {
-            return Replacement::Literal(x);
+            return Some(x);
         }
     }
-    Replacement::Absent
+    None
 }
 
 // The list of literal f goes on with clause x after `from`: clause from / 2 by its watch from % 2, or the list's beginning.
@@ -98,13 +89,9 @@ fn pass(work: &[u32], words: u32, t: State, s: u8) -> State
 {
     let next = following(work, words, t.clause, s);
     State {
-        length: t.length,
-        next: t.next,
-        level: t.level,
-        ticks: t.ticks,
-        clash: t.clash,
         clause: next,
         link: 2 * t.clause + (s % 2) as u32,
+        ..t
     }
 }
 
@@ -116,15 +103,7 @@ fn rewatch(work: &mut [u32], net: Netlist, arena: Arena, t: State, f: u32, s: u8
     let next = following(work, net.words, t.clause, s);
     link(work, net, arena, f, t.link, next);
     attach(work, net, t.clause, s, x);
-    State {
-        length: t.length,
-        next: t.next,
-        level: t.level,
-        ticks: t.ticks,
-        clash: t.clash,
-        clause: next,
-        link: t.link,
-    }
+    State { clause: next, ..t }
 }
 
 // The clause has no other literal to watch: its partner o is implied, or it is violated.
@@ -134,13 +113,9 @@ fn close(work: &mut [u32], net: Netlist, t: State, o: u32, s: u8) -> State
 {
     if value(work, net.nodes, o) == 0 {
         return State {
-            length: t.length,
-            next: t.next,
-            level: t.level,
-            ticks: t.ticks,
             clash: 4 * t.clause + 3,
             clause: UNDEF,
-            link: t.link,
+            ..t
         };
     }
     let u = pass(work, net.words, t, s);
@@ -158,8 +133,8 @@ fn turn(work: &mut [u32], net: Netlist, arena: Arena, t: State, f: u32, s: u8) -
     }
     let n = head(work, net.words, t.clause, 1) % 1048576;
     match find(work, net, t.clause, o, n) {
-        Replacement::Literal(x) => rewatch(work, net, arena, t, f, s, x),
-        Replacement::Absent => close(work, net, t, o, s),
+        Some(x) => rewatch(work, net, arena, t, f, s, x),
+        None => close(work, net, t, o, s),
     }
 }
 
@@ -185,13 +160,11 @@ fn walk(work: &mut [u32], net: Netlist, arena: Arena, t: State, f: u32, n: u32) 
     ensures { T.Left work.new result (W.walked work.old net arena t f n) }
 {
     let mut u = t;
-    let mut left = n;
-    while 0 < left {
+    for _ in 0..n {
         if arena.count <= u.clause {
             return u;
         }
         u = step(work, net, arena, u, f);
-        left -= 1;
     }
     u
 }
@@ -213,13 +186,9 @@ pub fn visit(work: &mut [u32], net: Netlist, arena: Arena, t: State, f: u32) -> 
 {
     let c = first(work, net.nodes, f);
     let u = State {
-        length: t.length,
-        next: t.next,
-        level: t.level,
-        ticks: t.ticks,
-        clash: t.clash,
         clause: c,
         link: UNDEF,
+        ..t
     };
     if arena.count <= c {
         return u;

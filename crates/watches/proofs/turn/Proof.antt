@@ -14,7 +14,7 @@ returns c = rw (
   eq-eqb _ _ c.if-value-eq1.true,
 ) (record { words = refl; state = c.pass.ensures })
 
-returns-2 : tie.Need-returns-in-Literal
+returns-2 : tie.Need-returns-in-Some
 unfolding W.turned W.turned_by W.chosen
 returns-2 c = rw (
   ← c.partner-o.ensures,
@@ -22,10 +22,10 @@ returns-2 c = rw (
   ← c.head-n.ensures,
   ← c.find.ensures,
   ne_eqb _ _ c.if-value-eq1.false,
-  c.in-Literal.is,
+  c.in-Some.is,
 ) c.rewatch.ensures
 
-returns-3 : tie.Need-returns-in-Absent
+returns-3 : tie.Need-returns-in-None
 unfolding W.turned W.turned_by W.chosen
 returns-3 c = rw (
   ← c.partner-o.ensures,
@@ -33,7 +33,7 @@ returns-3 c = rw (
   ← c.head-n.ensures,
   ← c.find.ensures,
   ne_eqb _ _ c.if-value-eq1.false,
-  c.in-Absent.is,
+  c.in-None.is,
 ) c.close.ensures
 
 pub turn_spec : {M : Type 1} → statement M
