@@ -12,11 +12,10 @@ use Rattle.frames.specs.Lanes.{hit_in}
 use Rattle.machine.specs.Layers.{Entry, state_of, place_of, slot_hit, slot_place, expanded, layer_slots, least_below}
 use Rattle.machine.proofs.Expand.{quotient-below}
 use Rattle.machine.proofs.First.{none_is}
-use Rattle.states.specs.declared.Tally.{Tally}
-use Rattle.states.specs.declared.Tally.TheVariants.{Records, TooMany}
+use Rattle.std.specs.Prelude.{Some, None}
 use Rattle.states.specs.declared.Table.{Table}
 use Rattle.states.specs.Number.{number_at}
-use Rattle.states.specs.Table.{Kept, Fits, count_of, TallyFits}
+use Rattle.states.specs.Table.{Tally, Kept, Fits, count_of, TallyFits}
 use Rattle.states.specs.Trace.{Trace, Holds}
 use Rattle.states.proofs.Laws.{state-kept, trace-kept, holds-next}
 use Rattle.influence.specs.Part.{Part, Closed}
@@ -29,8 +28,8 @@ use Rattle.layers.proofs.Slots.{row-in, rows_in, place_at, expand-block, quiet-b
 
 -- the answer where no block is left
 abbrev pub asked_of : Tally → Asked
-asked_of (Records n) = Next n
-asked_of TooMany = Full
+asked_of (Some n) = Next n
+asked_of None = Full
 
 module _ (c : Part) (b lo hi : ℕ) (tab : Table) (quota : ℕ) (r₀ : List ℕ) where
   abbrev rows : ℕ
@@ -147,5 +146,5 @@ module _ (c : Part) (b lo hi : ℕ) (tab : Table) (quota : ℕ) (r₀ : List ℕ
             es h)
 
         go : (met : Tally) → Asking q (count_of quota met) r → TallyFits quota met → AskedOf c b t lo tab quota r es (asked_of met)
-        go (Records n) k w = (quiet k, holds k, w)
-        go TooMany k w = (quiet k, holds k)
+        go (Some n) k w = (quiet k, holds k, w)
+        go None k w = (quiet k, holds k)

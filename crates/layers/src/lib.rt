@@ -20,7 +20,7 @@ ghost use Rattle.layers.specs.Asked.{AskedOf};
 
 use layout::Layout;
 use literals::Lit;
-use states::{Table, Tally};
+use states::Table;
 
 // What a layer has: a first hit, by its record and row; or none, and the number of records with those of the next layer, or that there
 // are more than there may be.
@@ -70,7 +70,7 @@ struct Block {
     e: u32,
     block: usize,
     allowed: u64,
-    met: Tally,
+    met: Option<usize>,
     quota: usize,
     table: Table,
 }
@@ -88,7 +88,7 @@ struct Span {
 // The states met, and the rows that are left to be met: those that break no constraint and lead where no row before them leads.
 #[derive(Clone, Copy)]
 struct Pending {
-    met: Tally,
+    met: Option<usize>,
     left: u64,
 }
 
@@ -106,9 +106,7 @@ fn pack(state: &[u64], p: u32) -> u32
     ensures { result ≡ number_of (map (λ w. bit w p) state.now) }
 {
     let mut n: u64 = 0;
-    let mut i = state.len();
-    while 0 < i {
-        i -= 1;
+    for i in (0..state.len()).rev() {
         n = 2 * n + (state[i] >> p) % 2;
     }
     n as u32
@@ -119,14 +117,10 @@ fn pack_words(state: &[u64], p: u32, s: &mut [u32])
     requires { (p < 64) × (length state.now ≤ 32 * length s.old) × (32 * length s.old < length state.now + 32) }
     ensures { number_at s.new 0 (length s.old) ≡ number_of (map (λ w. bit w p) state.now) }
 {
-    let n = s.len();
-    let count = state.len();
-    let mut j = 0;
-    while j < n {
+    for j in 0..s.len() {
         let from = 32 * j;
-        let end = transitions::word_end(from, count);
+        let end = transitions::word_end(from, state.len());
         s[j] = pack(&state[from..end], p);
-        j += 1;
     }
 }
 
@@ -138,11 +132,8 @@ fn same_rows(state: &[u64], p: u32) -> u64
         × (bit result p ≡ true) }
 {
     let mut same: u64 = 0xffff_ffff_ffff_ffff;
-    let count = state.len();
-    let mut i = 0;
-    while i < count {
-        same = same & alike(state[i], p);
-        i += 1;
+    for w in state {
+        same = same & alike(*w, p);
     }
     same
 }
@@ -176,7 +167,13 @@ fn meet_row(
 }
 
 // Meets the states that the rows of a span lead to that are left. s is scratch.
-fn meet_rows(state: &[u64], span: Span, start: Pending, records: &mut [u32], s: &mut [u32]) -> Tally
+fn meet_rows(
+    state: &[u64],
+    span: Span,
+    start: Pending,
+    records: &mut [u32],
+    s: &mut [u32],
+) -> Option<usize>
     requires fits { Fits span.table span.quota (count_of span.quota start.met) records.old }
     requires n_bound { (span.n ≤ 64) × (span.first ≤ 65536) × TallyFits span.quota start.met × (length s.old ≡ span.table.width)
         × (length state.now ≤ 32 * length s.old) × (32 * length s.old < length state.now + 32) }
@@ -188,6 +185,7 @@ fn meet_rows(state: &[u64], span: Span, start: Pending, records: &mut [u32], s: 
     let n = span.n;
     let mut pending = start;
     let mut p = words::first_difference(start.left, 0);
+    // A while: the rows that are left say which is next.
     while p < n {
         pending = meet_row(state, p, span, pending, records, s);
         p = words::first_difference(pending.left, 0);
@@ -251,12 +249,9 @@ fn next_kept(m: &[u32], layout: Layout, values: &[u64], kept: &[u32], state: &mu
         (word m.now (layout.latches + 3 * get_or kept.now i 0 + 1)) }
 {
     let latches = layout.latches;
-    let count = kept.len();
-    let mut i = 0;
-    while i < count {
-        let j = kept[i] as usize;
+    for (i, k) in kept.iter().enumerate() {
+        let j = *k as usize;
         state[i] = frames::literal_value(values, Lit::from_word(m[latches + 3 * j + 1]));
-        i += 1;
     }
 }
 
@@ -270,7 +265,7 @@ fn meet_block(
     kept: &[u32],
     records: &mut [u32],
     state: &mut [u64],
-) -> Tally
+) -> Option<usize>
     requires by_index { (order : List ℕ) × Ready m.now layout order (length values.now) }
     requires fits { Fits block.table block.quota (count_of block.quota block.met) records.old }
     requires fitting { Fitting (length kept.now) block.table.width (length state.old) × (layout.i ≤ 16) × (block.block ≤ 1024)
@@ -284,8 +279,8 @@ fn meet_block(
     let met = block.met;
     let quota = block.quota;
     let table = block.table;
-    let Tally::Records(_) = met else {
-        return Tally::TooMany;
+    let Some(_) = met else {
+        return None;
     };
     let n = lanes(layout.i);
     let first = (64 * block.block) as u32;
@@ -340,7 +335,7 @@ pub fn ask_layer(
     let words = blocks(layout.i);
     let n = lanes(layout.i);
     let total = (hi - lo) * words;
-    let mut met = Tally::Records(hi);
+    let mut met = Some(hi);
     let mut q = 0;
     while q < total {
         let e = lo + q / words;
@@ -368,8 +363,8 @@ pub fn ask_layer(
         q += 1;
     }
     match met {
-        Tally::Records(count) => Asked::Next(count),
-        Tally::TooMany => Asked::Full,
+        Some(count) => Asked::Next(count),
+        None => Asked::Full,
     }
 }
 
@@ -383,7 +378,7 @@ pub fn meet_starts(
     kept: &[u32],
     state: &mut [u64],
     s: &mut [u32],
-) -> Tally
+) -> Option<usize>
     requires holds { Holds m.now (circuit_in m.now) }
     requires layout_of { LayoutOf m.now layout }
     requires u_bound { (layout.u ≤ 16) × (starts.count ≤ 65536) × Fits starts.table starts.quota 0 records.old × (1024 ≤ length state.old)
@@ -397,11 +392,11 @@ pub fn meet_starts(
     let count = starts.count;
     let quota = starts.quota;
     let table = starts.table;
-    let mut met = Tally::Records(0);
+    let mut met = Some(0);
     let mut y = 0;
     while y < count {
-        let Tally::Records(_) = met else {
-            return Tally::TooMany;
+        let Some(_) = met else {
+            return None;
         };
         transitions::start_state(m, layout, y as u64, kept, state, s);
         met = states::meet(records, table, met, quota, s, 0, y as u32);

@@ -20,7 +20,7 @@ ghost use Rattle.reachable.specs.Asking.{Regrown, StageFits, Asks};
 
 use layers::{Asked, Layer, Starts};
 use layout::Layout;
-use states::{Table, Tally};
+use states::Table;
 
 // The work that a search by layers may take by a frame: base, and unit for each unit of the frame's size.
 #[derive(Clone, Copy)]
@@ -139,7 +139,7 @@ fn meet_starts(
     records: &mut [u32],
     kept: &[u32],
     state: &mut [u64],
-) -> Tally
+) -> Option<usize>
     requires holds { Holds m.now (circuit_in m.now) }
     requires layout_of { LayoutOf m.now layout }
     requires u_bound { (layout.u ≤ 16) × Fits table quota 0 records.old × Listed (part_in m.now kept.now) × (length kept.now ≤ 1024)
@@ -202,7 +202,7 @@ fn ask_frames(
         buckets: begun,
     };
     states::fill(records, table, 0);
-    let Tally::Records(starts) = meet_starts(m, layout, table, begun, records, kept, state) else {
+    let Some(starts) = meet_starts(m, layout, table, begun, records, kept, state) else {
         return Found::Left(0);
     };
     let mut lo = 0;

@@ -1,11 +1,9 @@
 -- The table of states in working memory. Record i stands from word (w + 4) * i on, where a state has w words. Assumes nothing.
-use Rattle.std.specs.Prelude.{◌≡◌, Bool, true, false, List, ℕ, suc, ◌+◌, ◌*◌, ◌≤◌, ◌<◌, eqb, length, get_or, set}
+use Rattle.std.specs.Prelude.{◌≡◌, Option, Some, None, Bool, true, false, List, ℕ, suc, ◌+◌, ◌*◌, ◌≤◌, ◌<◌, eqb, length, get_or, set}
 use Rattle.nodes.specs.Last.{last_before}
 use Rattle.machine.specs.Layers.{Entry, state_of, met}
 use Rattle.states.specs.Number.{number_at, bucket_of}
 use Rattle.states.specs.declared.Table.{Table}
-use Rattle.states.specs.declared.Tally.{Tally}
-use Rattle.states.specs.declared.Tally.TheVariants.{Records, TooMany}
 
 -- word f of record i
 abbrev pub field : ℕ → List ℕ → ℕ → ℕ → ℕ
@@ -72,15 +70,19 @@ pub record Filled (p : Table) (count : ℕ) (r r' : List ℕ) : Type 0 where
   pub kept : Kept p.width count r r'
   pub stored : (es : List Entry) → length es ≡ count → States p.width r es → Stored p r' es
 
--- how many states were met, but not more than one more than quota
+-- how many states were met; None where there are more than there may be
+abbrev pub Tally : Type 0
+Tally = Option ℕ
+
+-- that number, but not more than one more than quota
 abbrev pub count_of : ℕ → Tally → ℕ
-count_of quota (Records n) = n
-count_of quota TooMany = quota + 1
+count_of quota (Some n) = n
+count_of quota None = quota + 1
 
 -- there are quota records at most
 abbrev pub TallyFits : ℕ → Tally → Type 0
-TallyFits quota (Records n) = n ≤ quota
-TallyFits quota TooMany = Unit {0}
+TallyFits quota (Some n) = n ≤ quota
+TallyFits quota None = Unit {0}
 
 -- the table has room for quota records, and holds count of them if these are not more than quota
 pub record Fits (p : Table) (quota count : ℕ) (records : List ℕ) : Type 0 where

@@ -23,13 +23,6 @@ ghost use Rattle.states.specs.Table.{
   TallyFits,
 };
 
-// How many states were met: as many as there are records, or more than there may be.
-#[derive(Clone, Copy)]
-pub enum Tally {
-    Records(usize),
-    TooMany,
-}
-
 // The form of a table: how many words a state has, and how many buckets there are.
 #[derive(Clone, Copy)]
 pub struct Table {
@@ -49,9 +42,7 @@ fn hash(s: &[u32]) -> u32
     ensures { result ≡ hashed (length s.now) (number_at s.now 0 (length s.now)) }
 {
     let mut h: u32 = 0;
-    let mut i = s.len();
-    while 0 < i {
-        i -= 1;
+    for i in (0..s.len()).rev() {
         h = mix(s[i], h);
     }
     h
@@ -70,13 +61,10 @@ fn same(records: &[u32], at: usize, s: &[u32]) -> bool
     requires { at + length s.now ≤ length records.now }
     ensures { result ≡ eqb (number_at records.now at (length s.now)) (number_at s.now 0 (length s.now)) }
 {
-    let n = s.len();
-    let mut i = 0;
-    while i < n {
-        if records[at + i] != s[i] {
+    for (i, w) in s.iter().enumerate() {
+        if records[at + i] != *w {
             return false;
         }
-        i += 1;
     }
     true
 }
@@ -89,6 +77,7 @@ fn known(records: &[u32], table: Table, h: usize, s: &[u32]) -> bool
 {
     let stride = table.width + 4;
     let mut next = records[stride * h] as usize;
+    // A while: the chain says itself where it ends.
     while 0 < next {
         let at = stride * (next - 1);
         if same(records, at + 4, s) {
@@ -104,11 +93,8 @@ fn copy(records: &mut [u32], at: usize, s: &[u32])
     requires { at + length s.now ≤ length records.old }
     ensures { Copied records.old at s.now records.new }
 {
-    let n = s.len();
-    let mut i = 0;
-    while i < n {
-        records[at + i] = s[i];
-        i += 1;
+    for (i, w) in s.iter().enumerate() {
+        records[at + i] = *w;
     }
 }
 
@@ -136,34 +122,33 @@ fn link(records: &mut [u32], width: usize, n: usize, h: usize)
     records[head] = (n + 1) as u32;
 }
 
-// Meets state s, which row `row` of record `parent` leads to, where there may be quota records.
+// Meets state s, which row `row` of record `parent` leads to, where there may be quota records. A tally is how many states were met, which
+// is the number of records; None where there are more than there may be.
 pub fn meet(
     records: &mut [u32],
     table: Table,
-    tally: Tally,
+    tally: Option<usize>,
     quota: usize,
     s: &[u32],
     parent: u32,
     row: u32,
-) -> Tally
+) -> Option<usize>
     requires { Fits table quota (count_of quota tally) records.old × TallyFits quota tally × (length s.now ≡ table.width) }
     ensures { Meets table quota (count_of quota tally) (number_at s.now 0 (length s.now)) parent row records.old
         (count_of quota result) records.new
         × TallyFits quota result }
 {
-    let Tally::Records(count) = tally else {
-        return Tally::TooMany;
-    };
+    let count = tally?;
     let h = bucket(s, table.buckets);
     if known(records, table, h, s) {
-        return Tally::Records(count);
+        return Some(count);
     }
     if count == quota {
-        return Tally::TooMany;
+        return None;
     }
     put(records, count, s, parent, row);
     link(records, table.width, count, h);
-    Tally::Records(count + 1)
+    Some(count + 1)
 }
 
 // Empties all buckets.
@@ -172,11 +157,8 @@ fn clear(records: &mut [u32], table: Table)
     ensures { Cleared table records.old records.new }
 {
     let stride = table.width + 4;
-    let buckets = table.buckets;
-    let mut h = 0;
-    while h < buckets {
+    for h in 0..table.buckets {
         records[stride * h] = 0;
-        h += 1;
     }
 }
 
@@ -200,11 +182,9 @@ fn link_all(records: &mut [u32], table: Table, count: usize)
         → Stored table records.new es) }
 {
     let width = table.width;
-    let mut n = 0;
-    while n < count {
+    for n in 0..count {
         let h = bucket_at(records, table, n);
         link(records, width, n, h);
-        n += 1;
     }
 }
 

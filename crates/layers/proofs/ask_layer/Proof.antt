@@ -12,9 +12,8 @@ use Rattle.frames.proofs.Facts.{ready_with}
 use Rattle.machine.specs.Layers.{Entry}
 use Rattle.machine.proofs.Expand.{quotient-below}
 use Rattle.states.specs.Trace.{Holds}
-use Rattle.states.specs.declared.Tally.{Tally}
 use Rattle.states.specs.Number.{number_at}
-use Rattle.states.specs.Table.{count_of, TallyFits}
+use Rattle.states.specs.Table.{Tally, count_of, TallyFits}
 use Rattle.states.proofs.Numbers.{part-number}
 use Rattle.states.proofs.Places.{record-before}
 use Rattle.layers.specs.Rows.{FirstRow, BlockMet}
@@ -333,37 +332,37 @@ ended c t es h =
     c.requires.1.1.1 c.loop-q.met c.loop-q.invariant.4 c.loop-q.invariant.5
     (omega (arith, c.loop-q-test.false, ap (λ (x : ℕ). (l.hi - l.lo) * x) (words_are c.before.before.before))) t es h
 
-same-length-4 : tie.Need-shape_of-records-in-Records invariant-loop decreases-loop
+same-length-4 : tie.Need-shape_of-records-in-Some invariant-loop decreases-loop
 same-length-4 c = c.loop-q.invariant.1
 
-same-length-5 : tie.Need-shape_of-values-in-Records invariant-loop decreases-loop
+same-length-5 : tie.Need-shape_of-values-in-Some invariant-loop decreases-loop
 same-length-5 c = c.loop-q.invariant.2
 
-same-length-6 : tie.Need-shape_of-state-in-Records invariant-loop decreases-loop
+same-length-6 : tie.Need-shape_of-state-in-Some invariant-loop decreases-loop
 same-length-6 c = c.loop-q.invariant.3
 
-returns-2 : tie.Need-returns-in-Records invariant-loop decreases-loop
+returns-2 : tie.Need-returns-in-Some invariant-loop decreases-loop
 returns-2 c =
     λ t es h.
     let l = c.args.layer in
     subst (λ (m : Tally). AskedOf (part c.before.before.before.before.before.before.before.before.before.before.before.before.before) l.b t l.lo l.table l.quota c.loop-q.records es (asked_of m))
-    c.in-Records.is (ended c.before t es h)
+    c.in-Some.is (ended c.before t es h)
 
-same-length-7 : tie.Need-shape_of-records-in-TooMany invariant-loop decreases-loop
+same-length-7 : tie.Need-shape_of-records-in-None invariant-loop decreases-loop
 same-length-7 c = c.loop-q.invariant.1
 
-same-length-8 : tie.Need-shape_of-values-in-TooMany invariant-loop decreases-loop
+same-length-8 : tie.Need-shape_of-values-in-None invariant-loop decreases-loop
 same-length-8 c = c.loop-q.invariant.2
 
-same-length-9 : tie.Need-shape_of-state-in-TooMany invariant-loop decreases-loop
+same-length-9 : tie.Need-shape_of-state-in-None invariant-loop decreases-loop
 same-length-9 c = c.loop-q.invariant.3
 
-returns-3 : tie.Need-returns-in-TooMany invariant-loop decreases-loop
+returns-3 : tie.Need-returns-in-None invariant-loop decreases-loop
 returns-3 c =
     λ t es h.
     let l = c.args.layer in
     subst (λ (m : Tally). AskedOf (part c.before.before.before.before.before.before.before.before.before.before.before.before.before) l.b t l.lo l.table l.quota c.loop-q.records es (asked_of m))
-    c.in-TooMany.is (ended c.before t es h)
+    c.in-None.is (ended c.before t es h)
 
 pub ask_layer_spec : {M : Type 1} → statement M
 ask_layer_spec =

@@ -14,8 +14,7 @@ use Rattle.layout.specs.Words.{word}
 use Rattle.frames.specs.Lanes.{lane}
 use Rattle.frames.proofs.Facts.{right, known, no-cycle, latches-inside, latches-few, latches-are, latch-place, next-below}
 use Rattle.frames.proofs.Places.{inputs_are}
-use Rattle.states.specs.declared.Tally.{Tally}
-use Rattle.states.specs.Table.{Fits, count_of}
+use Rattle.states.specs.Table.{Tally, Fits, count_of}
 use Rattle.influence.specs.Part.{part_in}
 use Rattle.transitions.specs.Transitions.{number_of, next_in}
 use Rattle.transitions.proofs.Rows.{constrained-is}

@@ -3,9 +3,8 @@ use mathlib.Core.Path.{◌≡◌, refl, sym, ap, ◌∙◌, subst}
 use Prim.Native.Nat.{ℕ, ◌+◌, ◌-◌, ◌≤◌, ◌<◌}
 use native.Mathlib.Omega.{arith}
 use lib.ListN.{length}
-use Rattle.states.specs.declared.Tally.{Tally}
 use Rattle.states.specs.Number.{number_at}
-use Rattle.states.specs.Table.{count_of, TallyFits}
+use Rattle.states.specs.Table.{Tally, count_of, TallyFits}
 use Rattle.influence.specs.Part.{part_in}
 use Rattle.layers.proofs.Begin.{Beginning, beginning-start, beginning-more, beginning-lost}
 use borrow.Author.Rules.{rules}

@@ -11,8 +11,7 @@ use Rattle.frames.proofs.Facts.{ready_with}
 use Rattle.machine.specs.Layers.{started}
 use Rattle.layers.specs.Rows.{Fitting}
 use Rattle.states.specs.declared.Table.{Table}
-use Rattle.states.specs.declared.Tally.{Tally}
-use Rattle.states.specs.Table.{count_of, TallyFits}
+use Rattle.states.specs.Table.{Tally, count_of, TallyFits}
 use Rattle.states.specs.Trace.{Holds}
 use Rattle.states.proofs.Laws.{holds-none, holds_fits}
 use Rattle.transitions.specs.Transitions.{machine_of}
@@ -262,8 +261,8 @@ loop-holds c =
     let a = c.args in
     let s = a.q.stage in
     let q = c.quota-begun.result in
-    let told = c.in-Records.is in
-    let n = c.in-Records.starts in
+    let told = c.in-Some.is in
+    let n = c.in-Some.starts in
     let few-starts : n ≤ q = subst (TallyFits q) told c.meet_starts.ensures.1 in (
       omega arith,
       omega arith,

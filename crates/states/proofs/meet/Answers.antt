@@ -5,69 +5,64 @@ use Prim.Native.Nat.{ℕ, ◌+◌, ◌-◌, ◌*◌, ◌≤◌, ◌<◌}
 use native.Mathlib.Omega.{arith}
 use lib.ListN.{length, get_or, set, length-set}
 use Rattle.states.specs.declared.Table.{Table}
-use Rattle.states.specs.declared.Tally.{Tally}
-use Rattle.states.specs.declared.Tally.TheVariants.{Records, TooMany}
+use Rattle.std.specs.Prelude.{Some, None}
 use Rattle.states.specs.Number.{number_at, bucket_of}
-use Rattle.states.specs.Table.{Put, linked_in, Fits, Meets, count_of, TallyFits}
+use Rattle.states.specs.Table.{Tally, Put, linked_in, Fits, Meets, count_of, TallyFits}
 use Rattle.states.proofs.Numbers.{bucket-small}
 use Rattle.states.proofs.Places.{record-before}
 use borrow.Author.Rules.{rules}
-use Rattle.states.proofs.meet.Statement.{statement}
-use Rattle.states.proofs.meet.Tie as tie
+use Rattle.states.proofs.meet.Goals as goal
 
-returns : tie.Need-returns-in_default
-returns c =
-    let a = c.args in
-    let S = number_at a.s.now 0 (length a.s.now) in (
-      subst
-          (λ (t : Tally). Meets a.table a.quota (count_of a.quota t) S a.parent a.row a.records.now (a.quota + 1) a.records.now)
-          (sym c.in_default.is) (Meets.lost (omega arith)),
-      tt,
-    )
+pub returns-in_err-count : goal.returns-in_err-count
+returns-in_err-count c =
+    let h : c.from_residual.result ≡ None = c.from_residual.ensures in
+    let w : c.args.tally ≡ None = c.in_err-count.was in
+    rw (h, w) (Meets.lost (omega arith), tt)
 
-bucket-requires : tie.Need-bucket-h-requires
-bucket-requires c κs =
+pub bucket-h-requires : goal.bucket-h-requires
+bucket-h-requires c =
     let a = c.args in
-    let count = c.in-Records.count in
-    let told : a.tally ≡ Records count = c.in-Records.is in
+    let count = c.in_ok-count.count in
+    let told : a.tally ≡ Some count = c.in_ok-count.was in
     let fits = subst (λ (t : Tally). Fits a.table a.quota (count_of a.quota t) a.records.now) told c.requires.0 in
     let within = subst (TallyFits a.quota) told c.requires.1 in
     (fits.stored within).2.buckets.few
 
-known-requires : tie.Need-known-requires
-known-requires c κs =
+pub known-requires : goal.known-requires
+known-requires c =
     let a = c.args in
-    let count = c.in-Records.count in
-    let told : a.tally ≡ Records count = c.in-Records.is in
+    let count = c.in_ok-count.count in
+    let told : a.tally ≡ Some count = c.in_ok-count.was in
     let fits = subst (λ (t : Tally). Fits a.table a.quota (count_of a.quota t) a.records.now) told c.requires.0 in
     let within = subst (TallyFits a.quota) told c.requires.1 in
-    let st = fits.stored within in (
-      (st.0, st.2),
-      (
+    let st = fits.stored within in
+    record {
+      stored = (st.0, st.2);
+      s_len = (
         c.requires.2,
         c.bucket-h.ensures ∙ ap (λ (w : ℕ).
             bucket_of w a.table.buckets (number_at a.s.now 0 (length a.s.now))) c.requires.2,
-      ),
-    )
+      );
+    }
 
-returns-2 : tie.Need-returns-then-known
-returns-2 c =
+pub returns-then-known : goal.returns-then-known
+returns-then-known c =
     let a = c.args in
     let S = number_at a.s.now 0 (length a.s.now) in
-    let count = c.in-Records.count in
-    let told : a.tally ≡ Records count = c.in-Records.is in
+    let count = c.in_ok-count.count in
+    let told : a.tally ≡ Some count = c.in_ok-count.was in
     let within = subst (TallyFits a.quota) told c.requires.1 in (
       subst (λ (t : Tally). Meets a.table a.quota (count_of a.quota t) S a.parent a.row a.records.now count a.records.now) (sym told)
           (Meets.again within (λ es t. sym (c.known.ensures es t) ∙ c.if-known.true)),
       within,
     )
 
-returns-3 : tie.Need-returns-then-count-quota
-returns-3 c =
+pub returns-then-count-quota : goal.returns-then-count-quota
+returns-then-count-quota c =
     let a = c.args in
     let S = number_at a.s.now 0 (length a.s.now) in
-    let count = c.in-Records.count in
-    let told : a.tally ≡ Records count = c.in-Records.is in
+    let count = c.in_ok-count.count in
+    let told : a.tally ≡ Some count = c.in_ok-count.was in
     let e : count + 1 ≡ a.quota + 1 = ap (λ (x : ℕ). x + 1) c.if-count-quota.true in (
       subst (λ (t : Tally). Meets a.table a.quota (count_of a.quota t) S a.parent a.row a.records.now (a.quota + 1) a.records.now) (sym told)
           (subst (λ (x : ℕ). Meets a.table a.quota count S a.parent a.row a.records.now x a.records.now) e
@@ -75,22 +70,22 @@ returns-3 c =
       tt,
     )
 
-put-requires : tie.Need-put-requires
-put-requires c κs =
+pub put-requires : goal.put-requires
+put-requires c =
     let a = c.args in
-    let count = c.in-Records.count in
-    let told : a.tally ≡ Records count = c.in-Records.is in
+    let count = c.in_ok-count.count in
+    let told : a.tally ≡ Some count = c.in_ok-count.was in
     let fits = subst (λ (t : Tally). Fits a.table a.quota (count_of a.quota t) a.records.now) told c.requires.0 in
     let within = subst (TallyFits a.quota) told c.requires.1 in
     subst (λ (w : ℕ). (w + 4) * count + (w + 4) ≤ length a.records.now) (sym c.requires.2)
     (omega (arith, fits.quota-room, record-before (a.table.width + 4) count a.quota (omega (arith, within, c.if-count-quota.false))))
 
-link-requires : tie.Need-link-requires
-link-requires c κs =
+pub link-requires : goal.link-requires
+link-requires c =
     let a = c.args in
     let p = a.table in
-    let count = c.in-Records.count in
-    let told : a.tally ≡ Records count = c.in-Records.is in
+    let count = c.in_ok-count.count in
+    let told : a.tally ≡ Some count = c.in_ok-count.was in
     let fits = subst (λ (t : Tally). Fits a.table a.quota (count_of a.quota t) a.records.now) told c.requires.0 in
     let within = subst (TallyFits a.quota) told c.requires.1 in
     let b = (fits.stored within).2.buckets in
@@ -116,24 +111,24 @@ link-requires c κs =
       omega (arith, within, c.if-count-quota.false, fits.quota-small),
     )
 
-add-t19 : tie.Need-overflow_add-result
-add-t19 c =
+pub overflow_add-result : goal.overflow_add-result
+overflow_add-result c =
     let a = c.args in
-    let told : a.tally ≡ Records c.in-Records.count = c.in-Records.is in
+    let told : a.tally ≡ Some c.in_ok-count.count = c.in_ok-count.was in
     let fits = subst (λ (t : Tally). Fits a.table a.quota (count_of a.quota t) a.records.now) told c.requires.0 in
     let within = subst (TallyFits a.quota) told c.requires.1 in
     omega (arith, within, fits.quota-small)
 
-same-length-3 : tie.Need-shape_of-records
-same-length-3 c = c.link.auto.records ∙ c.put.auto.records
+pub shape_of-records : goal.shape_of-records
+shape_of-records c = c.link.auto.records ∙ c.put.auto.records
 
-returns-4 : tie.Need-returns
-returns-4 c =
+pub returns : goal.returns
+returns c =
     let a = c.args in
     let p = a.table in
     let S = number_at a.s.now 0 (length a.s.now) in
-    let count = c.in-Records.count in
-    let told : a.tally ≡ Records count = c.in-Records.is in
+    let count = c.in_ok-count.count in
+    let told : a.tally ≡ Some count = c.in_ok-count.was in
     let within = subst (TallyFits a.quota) told c.requires.1 in
     let less : count < a.quota = omega (arith, within, c.if-count-quota.false) in
     let u : Put p.width a.records.now count S a.parent a.row c.put.new.records =
@@ -146,8 +141,3 @@ returns-4 c =
           (Meets.added less (λ es t. sym (c.known.ensures es t) ∙ c.if-known.false) c.put.new.records u)),
       omega arith,
     )
-
-pub meet_spec : {M : Type 1} → statement M
-meet_spec =
-    tie.close
-    (tie.spec (λ c. search rules) (λ c. search rules) returns bucket-requires known-requires (λ c. search rules) returns-2 (λ c. search rules) returns-3 put-requires link-requires add-t19 same-length-3 returns-4)
