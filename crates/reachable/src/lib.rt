@@ -95,18 +95,18 @@ fn width(latches: usize) -> usize
     (latches + 31) / 32
 }
 
-// The lesser of two numbers.
+// The lesser of two numbers. It has a contract of its own since that of the library's min speaks of an order, and quota's proof of numbers.
 fn lesser(a: u64, b: u64) -> usize
     ensures { result ≡ min a b }
 {
-    if a < b { a as usize } else { b as usize }
+    a.min(b) as usize
 }
 
-// The later of two frames.
+// The later of two frames, for the same reason.
 fn later(t: usize, u: usize) -> usize
     ensures { result ≡ max t u }
 {
-    if t < u { u } else { t }
+    t.max(u)
 }
 
 // How many states may be met by frame t + 1.
