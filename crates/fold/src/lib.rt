@@ -68,10 +68,8 @@ fn write_inputs(out: &mut [u8], at: usize, free: usize) -> usize
     ensures { Placed out.old at (inputs_text free) result out.new }
 {
     let mut end = at;
-    let mut j: usize = 0;
-    while j < free {
+    for j in 0..free {
         end = output::put_ended(out, end, 2 * (j as u32 + 1), 0);
-        j += 1;
     }
     end
 }
@@ -117,10 +115,8 @@ fn write_gates(work: &[u32], g: Graph, out: &mut [u8], at: usize) -> usize
     let first = g.free + 1;
     let gates = g.nodes - first;
     let mut end = at;
-    let mut j: usize = 0;
-    while j < gates {
+    for j in 0..gates {
         end = write_gate(work, first + j, out, end);
-        j += 1;
     }
     end
 }
