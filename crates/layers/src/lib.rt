@@ -24,6 +24,7 @@ use states::Table;
 
 // What a layer has: a first hit, by its record and row; or none, and the number of records with those of the next layer, or that there
 // are more than there may be.
+// An enum of its own: three outcomes, of which none is a failure.
 #[derive(Clone, Copy)]
 pub enum Asked {
     Hit(usize, usize),

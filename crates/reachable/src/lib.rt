@@ -40,6 +40,7 @@ pub struct Stage {
 
 // What the frames have: the first frame with a hit; none up to the bound; none at all, however late, as the layer of a frame up to the
 // bound shows; or the frame at which there were too many states, and none before it.
+// An enum of its own: four outcomes, of which none is a failure.
 #[derive(Clone, Copy)]
 pub enum Layers {
     Hit(usize),

@@ -348,7 +348,7 @@ fn whole_blocks(from: u64) -> u64
     from / 64
 }
 
-// What a scan finds: a first hit; no hit; or none so far.
+// What a scan finds: a first hit; no hit; or none so far. An enum of its own: three outcomes, of which none is a failure.
 #[derive(Clone, Copy)]
 pub enum Found {
     Hit,
