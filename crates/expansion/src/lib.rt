@@ -51,10 +51,8 @@ pub fn free_inputs(pins: &[u8], user: usize, n: usize) -> usize
     ensures { result ≡ free_inputs (pins_of pins.now user) n }
 {
     let mut count: usize = 0;
-    let mut i: usize = 0;
-    while i < n {
+    for i in 0..n {
         count += bits_of(pinning::pin_at(pins, user, i));
-        i += 1;
     }
     count
 }
@@ -73,6 +71,7 @@ fn expand_row(
     ensures { out.new
         ≡ stored out.old at (bit_line (fill (pins_of pins.now user) (bits_at out.old from) 0 0 inputs)) }
 {
+    // A while that counts down: the invariant names how many inputs are left, and a reversed range has no such number.
     let mut j = n;
     let mut i = inputs;
     while 0 < i {
@@ -104,6 +103,7 @@ fn expand_rows(
     let end = start + (t + 1) * (inputs + 1);
     let mut from = start + (t + 1) * (n + 1);
     let mut at = end;
+    // A while that counts down, as in expand_row.
     let mut u = t + 1;
     while 0 < u {
         u -= 1;

@@ -1,29 +1,27 @@
 -- Words that are copied, and resets that are stored, one after the other. Assumes nothing.
-use mathlib.Core.Path.{◌≡◌, refl, sym, ap, ◌∙◌}
-use mathlib.Core.List.{List}
-use Prim.Native.Nat.{ℕ, ◌+◌, ◌*◌, ◌≤◌, ◌<◌}
+use mathlib.Core.Path.{◌≡◌, refl, sym, ap, ◌∙◌, subst}
+use mathlib.Core.List.{List, ◌++◌}
+use Prim.Native.Nat.{ℕ, ◌+◌, ◌-◌, ◌*◌, ◌≤◌, ◌<◌}
 use native.Mathlib.Decide.{ℕ_discrete}
 use native.Mathlib.Omega.{arith}
-use lib.ListN.{length, get_or, set, length-set}
-use lib.Seq.{get_or-set_same, get_or-set_other}
+use lib.ListN.{length, get_or, set, take, drop, length-set, length-drop, get_or-append}
+use lib.Seq.{get_or-set_same, get_or-set_other, length-take-le}
+use Rattle.std.proofs.Common.{length-append}
+use Rattle.std.proofs.lemmas.List.{get_or-take, get_or-drop, get_or-append_right}
 use Rattle.layout.specs.Words.{word}
 use Rattle.freeing.specs.Steps.{Copied, Reset}
 
-pub copied_none : (m before : List ℕ) → Copied m 0 before before
-copied_none m before = record { size = refl; new = λ i l. absurd (omega arith); others = λ i l. refl }
-
-pub copied_more : (m : List ℕ) (n : ℕ) {before : List ℕ} (now : List ℕ) (x : ℕ) → Copied m n before now → n < length now → x ≡ word m n
-    → Copied m (n + 1) before (set now n x)
-copied_more m n {before} now x c l e =
-    record {
-      size = length-set now n x ∙ c.size;
-      new = λ i h.
-          elim (ℕ_discrete i n) [
-            | yes q ↦ ap (word (set now n x)) q ∙ get_or-set_same now n x 0 l ∙ e ∙ ap (word m) (sym q)
-            | no q ↦ get_or-set_other now n i x 0 q ∙ c.new i (omega arith)
-          ];
-      others = λ i h. get_or-set_other now n i x 0 (λ q. omega arith) ∙ c.others i (omega arith);
-    }
+pub copied-front : (m : List ℕ) (n : ℕ) (before after : List ℕ) → n ≤ length m → n ≤ length before → after ≡ take n m ++ drop n before
+    → Copied m n before after
+copied-front m n before after h k e =
+    let l = length-take-le n m h in
+    subst (Copied m n before) (sym e)
+    (record {
+      size = omega (arith, length-append (take n m) (drop n before), l, length-drop n before);
+      new = λ i g. get_or-append (take n m) (drop n before) 0 i (omega (arith, l)) ∙ get_or-take n m i 0 g;
+      others = λ i g.
+          get_or-append_right (take n m) (drop n before) n i 0 l g ∙ get_or-drop n before (i - n) 0 ∙ ap (word before) (omega arith);
+    })
 
 pub reset-none : (at : ℕ) (before : List ℕ) → Reset at 0 before before
 reset-none at before = record { size = refl; new = λ j l. absurd (omega arith); others = λ i f. refl }

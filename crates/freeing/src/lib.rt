@@ -14,11 +14,7 @@ fn copy_words(m: &[u32], n: usize, words: &mut [u32])
     requires { (n ≤ length m.now) × (n ≤ length words.old) }
     ensures { Copied m.now n words.old words.new }
 {
-    let mut i: usize = 0;
-    while i < n {
-        words[i] = m[i];
-        i += 1;
-    }
+    words[..n].copy_from_slice(&m[..n]);
 }
 
 // Gives each of so many latches, whose words begin at `at`, itself as its reset.
@@ -26,11 +22,9 @@ fn free_resets(words: &mut [u32], at: usize, count: usize)
     requires { (at + 3 * count ≤ length words.old) × (count ≤ 1024) }
     ensures { Reset at count words.old words.new }
 {
-    let mut j: usize = 0;
-    while j < count {
+    for j in 0..count {
         let place = at + 3 * j;
         words[place + 2] = words[place];
-        j += 1;
     }
 }
 
@@ -39,9 +33,6 @@ pub fn free_circuit(m: &[u32], layout: Layout, words: &mut [u32])
     requires { FreeFits m.now layout words.old }
     ensures { Holds words.new (freed (circuit_in m.now)) }
 {
-    let n = layout.end;
-    let at = layout.latches;
-    let count = layout.l;
-    copy_words(m, n, words);
-    free_resets(words, at, count);
+    copy_words(m, layout.end, words);
+    free_resets(words, layout.latches, layout.l);
 }

@@ -65,10 +65,8 @@ fn start_waiting(vars: &[u32], ops: &[u32], table: &[u32], waiting: &mut [u32], 
     requires vars_len_bound { length vars.now ≤ 64 * length marks.old }
     ensures { Waiting vars.now ops.now table.now waiting.new marks.new }
 {
-    let mut i: usize = 0;
-    while i < vars.len() {
+    for i in 0..vars.len() {
         refresh(vars, ops, table, i, waiting, marks);
-        i += 1;
     }
 }
 
@@ -78,12 +76,10 @@ fn link_users(ops: &[u32], links: &mut [u32])
     requires ops_len_bound { length ops.now ≤ 6144 }
     ensures { Users ops.now (length ops.now) links.new }
 {
-    let mut s: usize = 0;
-    while s < ops.len() {
+    for s in 0..ops.len() {
         let v = ops[s] as usize;
         links[4097 + s] = links[v];
         links[v] = s as u32 + 1;
-        s += 1;
     }
 }
 
@@ -92,12 +88,10 @@ fn first_in(waiting: &[u32], from: usize, to: usize) -> usize
     requires { (from ≤ to) × (to ≤ length waiting.now) }
     ensures { FirstIn waiting.now from to result }
 {
-    let mut i = from;
-    while i < to {
+    for i in from..to {
         if waiting[i] == 0 {
             return i;
         }
-        i += 1;
     }
     to
 }
@@ -180,6 +174,7 @@ fn refresh_users(
         × Stale vars.now ops.now table.now v (length ops.now) waiting.old marks.old }
     ensures { Waiting vars.now ops.now table.now waiting.new marks.new }
 {
+    // A while: it follows the links from slot to slot.
     let mut cur = links[v];
     while 0 < cur {
         let s = cur as usize - 1;

@@ -43,12 +43,10 @@ fn first_free(pins: &[u8], user: usize, n: usize) -> bool
     requires { (user ≤ 1) × (n ≤ 256) }
     ensures { result ≡ none_held (pins_of pins.now user) n }
 {
-    let mut i: usize = 0;
-    while i < n {
+    for i in 0..n {
         if pin_at(pins, user, i) < 2 {
             return false;
         }
-        i += 1;
     }
     true
 }
@@ -91,6 +89,7 @@ fn enter_pins(m: &[u32], inputs: usize, pins: &[u8], user: usize, table: &mut [u
     requires by_index_2 { (v : ℕ) → get_or table.old v 2 ≡ 2 }
     ensures { (v : ℕ) → get_or table.new v 2 ≡ pin_of (pins_of pins.now user) 0 (column m.now 7 1 inputs) v }
 {
+    // A while that counts down: the invariant names how many inputs are left, and a reversed range has no such number.
     let mut i = inputs;
     while 0 < i {
         i -= 1;
@@ -120,10 +119,8 @@ fn keep_inputs(m: &[u32], inputs: usize, pins: &[u8], user: usize, words: &mut [
         × (result ≡ 7 + length (kept (pins_of pins.now user) 0 (column m.now 7 1 inputs))) }
 {
     let mut at: usize = 7;
-    let mut i: usize = 0;
-    while i < inputs {
+    for i in 0..inputs {
         at = keep_one(words, at, Lit::from_word(m[7 + i]), pin_at(pins, user, i));
-        i += 1;
     }
     at
 }
@@ -148,10 +145,8 @@ fn copy_tied(m: &[u32], from: usize, n: usize, table: &[u8], words: &mut [u32], 
     ensures { words.new
         ≡ stored words.old at (map (λ l. constant_of (get_or table.now (var l) 2) l) (column m.now from 1 n)) }
 {
-    let mut j: usize = 0;
-    while j < n {
+    for j in 0..n {
         words[at + j] = tie(table, Lit::from_word(m[from + j])).word() as u32;
-        j += 1;
     }
 }
 

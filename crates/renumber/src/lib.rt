@@ -19,12 +19,9 @@ pub fn number_inputs(m: &[u32], n: usize, names: &mut [u32])
     requires apart { Apart (λ j. var (word m.now (7 + j))) n (length names.old) }
     ensures { Stored (λ j. var (word m.now (7 + j))) (λ j. 1 + j) n names.old names.new }
 {
-    let mut j: usize = 0;
-    while j < n {
+    for j in 0..n {
         let v = Lit::from_word(m[7 + j]).var();
-        let place = v.0 as usize;
-        names[place] = 1 + j as u32;
-        j += 1;
+        names[v.0 as usize] = 1 + j as u32;
     }
 }
 
@@ -34,12 +31,9 @@ pub fn number_triples(m: &[u32], at: usize, n: usize, first: u32, names: &mut [u
     requires apart { Apart (λ j. var (word m.now (at + 3 * j))) n (length names.old) }
     ensures { Stored (λ j. var (word m.now (at + 3 * j))) (λ j. first + j) n names.old names.new }
 {
-    let mut j: usize = 0;
-    while j < n {
+    for j in 0..n {
         let v = Lit::from_word(m[at + 3 * j]).var();
-        let place = v.0 as usize;
-        names[place] = first + j as u32;
-        j += 1;
+        names[v.0 as usize] = first + j as u32;
     }
 }
 
@@ -78,9 +72,7 @@ pub fn rename_words(from: &[u32], at: usize, n: usize, names: &[u32], m: &mut [u
     requires within { Within from.now at n names.now }
     ensures { Put to (λ j. under names.now (word from.now (at + j))) n m.old m.new }
 {
-    let mut j: usize = 0;
-    while j < n {
+    for j in 0..n {
         m[to + j] = rename_word(names, from[at + j]);
-        j += 1;
     }
 }
