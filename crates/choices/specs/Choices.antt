@@ -1,5 +1,5 @@
 -- Choice of decisions, as functions of the words and of where the search stands. Assumes nothing.
-use Rattle.std.specs.Prelude.{Bool, true, false, not, cond, List, ℕ, zero, suc, ◌+◌, ◌-◌, ◌*◌, ◌/◌, ◌%◌, eqb, leb, ltb}
+use Rattle.std.specs.Prelude.{Bool, true, false, not, cond, List, ℕ, zero, suc, min, ◌+◌, ◌-◌, ◌*◌, ◌/◌, ◌%◌, eqb, leb, ltb}
 use Rattle.memory.specs.Record.{field, opposite, written, bit_at}
 use Rattle.memory.specs.declared.Netlist.{Netlist}
 use Rattle.memory.specs.declared.Arena.{Arena}
@@ -66,11 +66,11 @@ explained w net s l =
     (cond (eqb l net.root) (started w net s.arena (4 * (l / 2 % 1073741824)))
     (expanded_all w net s.arena (field w net.nodes (l / 2) 4) s.trail.length))
 
-unfoldable pub less : ℕ → ℕ
-less a = cond (eqb a 0) 0 (a - 1)
+abbrev pub less : ℕ → ℕ
+less a = a - 1
 
-unfoldable pub smaller : ℕ → ℕ → ℕ
-smaller a b = cond (ltb a b) a b
+abbrev pub smaller : ℕ → ℕ → ℕ
+smaller a b = min a b
 
 unfoldable pub released : List ℕ → Netlist → Search → ℕ → Searched
 released w net s i =
@@ -104,8 +104,8 @@ assumed_by w net s l = cond (eqb (value w net.nodes l) 0) (contradicted w net s 
 unfoldable pub assumed : List ℕ → Netlist → Search → ℕ → Searched
 assumed w net s v = assumed_by w net s (wish w net.nodes v)
 
-unfoldable pub sum : ℕ → ℕ → ℕ
-sum a b = cond (ltb (18446744073709551615 - a) b) 18446744073709551615 (a + b)
+abbrev pub sum : ℕ → ℕ → ℕ
+sum a b = min (a + b) 18446744073709551615
 
 abbrev pub ordered : Order → Bool → ℕ → ℕ → Order
 ordered o sweep goal more =

@@ -31,14 +31,12 @@ fn differs(work: &[u32], nodes: u32, v: u32) -> bool
 fn agree(work: &[u32], nodes: u32, v: u32, end: u32) -> u32
     ensures { result ≡ Ch.agreed work.now nodes v (end - v) }
 {
-    let mut at = v;
-    while at < end {
+    for at in v..end {
         if differs(work, nodes, at + 1) {
             return at;
         }
-        at += 1;
     }
-    at
+    v.max(end)
 }
 
 // The literal of free bit v that is true at the floor.
@@ -57,17 +55,13 @@ fn wish(work: &[u32], nodes: u32, v: u32) -> u32
 fn with_verdict(o: Order, x: u32) -> Order
     ensures { result ≡ Ch.with_verdict o x }
 {
-    let mut u = o;
-    u.verdict = x;
-    u
+    Order { verdict: x, ..o }
 }
 
 fn with_agreed(o: Order, v: u32) -> Order
     ensures { result ≡ Ch.with_agreed o v }
 {
-    let mut u = o;
-    u.agreed = v;
-    u
+    Order { agreed: v, ..o }
 }
 
 // The search ends with this verdict.
@@ -112,19 +106,6 @@ fn explain(work: &mut [u32], net: Netlist, s: Search, l: u32) -> Draft
     expand_all(work, net, a, n, why)
 }
 
-// One less, or 0.
-fn less(a: u32) -> u32
-    ensures { result ≡ Ch.less a }
-{
-    if a == 0 { 0 } else { a - 1 }
-}
-
-fn smaller(a: u32, b: u32) -> u32
-    ensures { result ≡ Ch.smaller a b }
-{
-    if a < b { a } else { b }
-}
-
 // The floor's bit at node i became 1: back to before the decision that it is 0.
 fn release(work: &mut [u32], net: Netlist, s: Search, i: u32) -> Search
     ensures { Ln.Left work.new result (Ch.released work.old net s i) }
@@ -132,9 +113,9 @@ fn release(work: &mut [u32], net: Netlist, s: Search, i: u32) -> Search
     let o = s.order;
     if field(work, net.nodes, i, VAL) == 0 {
         let to = field(work, net.nodes, i, LEVEL);
-        return retreat(work, net, s, less(to));
+        return retreat(work, net, s, to.saturating_sub(1));
     }
-    with_order(s, with_agreed(o, smaller(o.agreed, less(i))))
+    with_order(s, with_agreed(o, o.agreed.min(i.saturating_sub(1))))
 }
 
 // What becomes of the search after a raise of the floor.
@@ -189,25 +170,15 @@ fn assume(work: &mut [u32], net: Netlist, s: Search, v: u32) -> Search
     take(work, net, s, l)
 }
 
-// The sum of a and b, or the largest number where that is less.
-fn sum(a: u64, b: u64) -> u64
-    ensures { result ≡ Ch.sum a b }
-{
-    if 18446744073709551615 - a < b {
-        18446744073709551615
-    } else {
-        a + b
-    }
-}
-
 fn ordered(o: Order, sweep: bool, goal: u32, more: u64) -> Order
     ensures { result ≡ Ch.ordered o sweep goal more }
 {
-    let mut u = o;
-    u.sweep = sweep;
-    u.goal = goal;
-    u.slice = sum(o.ticks, more);
-    u
+    Order {
+        sweep,
+        goal,
+        slice: o.ticks.saturating_add(more),
+        ..o
+    }
 }
 
 // Another order, for so many ticks, from level 0 on.

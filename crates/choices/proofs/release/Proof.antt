@@ -9,11 +9,11 @@ use Rattle.choices.proofs.release.Tie as tie
 
 returns : tie.Need-returns-then-field-eq0
 unfolding Ch.released
-returns c = rw (← c.field.ensures, ← c.field-to.ensures, ← c.less.ensures, eq-eqb _ _ c.if-field-eq0.true) (c.retreat.ensures)
+returns c = rw (← c.field.ensures, ← c.field-to.ensures, ← c.saturating_sub.ensures, eq-eqb _ _ c.if-field-eq0.true) (c.retreat.ensures)
 
 returns-2 : tie.Need-returns
 unfolding Ch.released
-returns-2 c = rw (← c.field.ensures, ne_eqb _ _ c.if-field-eq0.false) (record { words = refl; search = agreed-by c.args.s c.args.i c.less-2.ensures c.smaller.ensures c.with_agreed.ensures c.with_order.ensures })
+returns-2 c = rw (← c.field.ensures, ne_eqb _ _ c.if-field-eq0.false) (record { words = refl; search = agreed-by c.args.s c.args.i c.saturating_sub-2.ensures c.min.ensures c.with_agreed.ensures c.with_order.ensures })
 
 pub release_spec : {M : Type 1} → statement M
 release_spec =
