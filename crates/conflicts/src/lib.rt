@@ -45,11 +45,9 @@ fn reset_rest(work: &mut [u32], nodes: u32, v: u32)
 fn reset_all(work: &mut [u32], nodes: u32, n: u32)
     ensures { work.new ≡ Cf.reset_all work.old nodes n }
 {
-    let mut left = n;
-    while 0 < left {
-        left -= 1;
-        reset(work, nodes, left, 2);
-        reset_rest(work, nodes, left);
+    for v in (0..n).rev() {
+        reset(work, nodes, v, 2);
+        reset_rest(work, nodes, v);
     }
 }
 
@@ -57,10 +55,8 @@ fn reset_all(work: &mut [u32], nodes: u32, n: u32)
 fn wipe(work: &mut [u32], i: usize, n: usize)
     ensures { work.new ≡ Cf.wiped work.old i (n - i) }
 {
-    let mut at = i;
-    while at < n {
+    for at in i..n {
         put(work, at, 0);
-        at += 1;
     }
 }
 
@@ -79,11 +75,9 @@ fn fill(work: &mut [u32], net: Netlist, heap: Heap, n: u32) -> Heap
 {
     let mut h = heap;
     let mut v = 1;
-    let mut left = n;
-    while 0 < left {
+    for _ in 0..n {
         h = admit(work, net, h, v);
         v = successor(v);
-        left -= 1;
     }
     h
 }
@@ -120,30 +114,20 @@ fn initial(heap: Heap) -> Search
     }
 }
 
-// The sum of a and b, or the largest number where that is less.
-fn sum(a: u64, b: u64) -> u64
-    ensures { result ≡ Cf.sum a b }
-{
-    if 18446744073709551615 - a < b {
-        18446744073709551615
-    } else {
-        a + b
-    }
-}
-
 // The work of entries from place `from` to place `to` of the trail, and one.
 fn work_of(from: u32, to: u32) -> u64
     ensures { result ≡ Cf.work_of from to }
 {
-    if to < from { 1 } else { (to - from) as u64 + 1 }
+    u64::from(to.saturating_sub(from)) + 1
 }
 
 fn counted(o: Order, n: u64) -> Order
     ensures { result ≡ Cf.counted o n }
 {
-    let mut u = o;
-    u.ticks = sum(o.ticks, n);
-    u
+    Order {
+        ticks: o.ticks.saturating_add(n),
+        ..o
+    }
 }
 
 // The consequences of all values, and the work that this took.
@@ -186,9 +170,10 @@ fn relieve(work: &mut [u32], net: Netlist, s: Search) -> Search
 fn doubled(o: Order) -> Order
     ensures { result ≡ Cf.doubled o }
 {
-    let mut u = o;
-    u.span = sum(o.span, o.span);
-    u
+    Order {
+        span: o.span.saturating_add(o.span),
+        ..o
+    }
 }
 
 // The other order, if this one has had its share of the work.
@@ -203,7 +188,8 @@ fn alternate(work: &mut [u32], net: Netlist, s: Search) -> Search
         let d = doubled(o);
         return change(work, net, with_order(s, d), false, o.goal, d.span);
     }
-    let more = sum(sum(o.span, o.span), sum(o.span, o.span));
+    let twice = o.span.saturating_add(o.span);
+    let more = twice.saturating_add(twice);
     change(work, net, s, true, o.goal, more)
 }
 
@@ -245,8 +231,7 @@ fn steps(work: &mut [u32], net: Netlist, s: Search, effort: u64) -> Search
     ensures { Ln.Left work.new result (Cf.steps work.old net s effort effort) }
 {
     let mut u = s;
-    let mut left = effort;
-    while 0 < left {
+    for _ in 0..effort {
         let o = u.order;
         if o.verdict != 0 {
             return u;
@@ -255,7 +240,6 @@ fn steps(work: &mut [u32], net: Netlist, s: Search, effort: u64) -> Search
             return u;
         }
         u = step(work, net, u);
-        left -= 1;
     }
     u
 }
