@@ -2,6 +2,7 @@
 use mathlib.Core.Path.{◌≡◌, refl, sym, ap, ◌∙◌, subst}
 use mathlib.Core.Bool.{Bool, true, false, not, cond, ◌&&◌, ◌||◌}
 use mathlib.Core.List.{List, [], ◌∷◌}
+use mathlib.Core.Logic.{◌⊎◌, inl, inr}
 use mathlib.Core.Option.{Option, none, some}
 use Prim.Native.Nat.{ℕ, ◌+◌, ◌-◌, ◌*◌, ◌^◌, ◌≤◌, ◌<◌}
 use native.Mathlib.Numerals.{add-one}
@@ -59,6 +60,11 @@ empty most (d ∷ w) h = absurd (omega arith)
 
 pub overlong : (most : ℕ) (w : List ℕ) → most < length w → is_digits most w ≡ false
 overlong most w h = simp (lt-leb _ _ h, and-false)
+
+-- a text with no byte, or with more than twenty
+pub outside : (w : List ℕ) → (length w ≡ 0) ⊎ ((length w ≡ 0 → ⊥) × 20 < length w) → none ≡ seed_of w
+outside w (inl h) = no-digits w (empty 20 w h)
+outside w (inr h) = no-digits w (overlong 20 w h.1)
 
 single : (w : List ℕ) → T (every is_digit w) → length w ≡ 1 → is_digits 20 w ≡ true
 single w a h = simp (true-T (every is_digit w) a, h, or-true)

@@ -1,10 +1,9 @@
 -- A number that is an argument of a program. Assumes nothing.
+use Rattle.std.specs.Prelude as Prelude
 use Rattle.std.specs.Prelude.{Bool, cond, not, ◌&&◌, ◌||◌, List, ℕ, leb, eqb, length, get_or}
 use Rattle.std.proofs.Math.Option.{Option, none, some}
 use Rattle.aiger.specs.Lists.{every}
 use Rattle.aiger.specs.Text.{is_digit, is_number, decimal}
-use Rattle.arguments.specs.declared.Argument.{Argument}
-use Rattle.arguments.specs.declared.Argument.TheVariants.{Number, Malformed}
 
 -- the number that a text is, in the file's form
 unfoldable pub number_of : List ℕ → Option ℕ
@@ -22,6 +21,7 @@ seed_of w = cond (is_digits 20 w && leb (decimal 0 w) 18446744073709551615) (som
 unfoldable pub place_of : List ℕ → Option ℕ
 place_of w = cond (is_digits 19 w) (some (decimal 0 w)) none
 
-abbrev pub meant : Argument → Option ℕ
-meant (Number v) = some v
-meant Malformed = none
+-- an answer of the program
+abbrev pub meant : {A : Type 0} → Prelude.Option A → Option A
+meant (Prelude.Some v) = some v
+meant Prelude.None = none

@@ -5,7 +5,6 @@ ghost use Rattle.std.specs.Prelude.{◌≡◌, ◌≤◌, ◌<◌, length};
 ghost use Rattle.aiger.specs.Memory.{Holds};
 ghost use Rattle.layout.specs.Words.{circuit_in};
 
-use arguments::Argument;
 use compare_command::Bounds;
 use files::say;
 
@@ -114,18 +113,19 @@ fn compare_files(rt: HostRuntime, q: Bounds) {
     compare_with(rt, q, &mut first, &mut second, &mut third, &mut work);
 }
 
-fn main(rt: HostRuntime) {
+// What the arguments ask: OLD NEW k D.
+fn asked(rt: HostRuntime) -> Option<Bounds> {
     if files::argument_count(rt) != 5 {
-        say_help(rt);
-        return;
+        return None;
     }
-    let Argument::Number(k) = files::number_of(files::argument(rt, 3)) else {
-        say_help(rt);
-        return;
-    };
-    let Argument::Number(d) = files::number_of(files::argument(rt, 4)) else {
-        say_help(rt);
-        return;
-    };
-    compare_files(rt, Bounds { k, d });
+    let k = files::number_of(files::argument(rt, 3))?;
+    let d = files::number_of(files::argument(rt, 4))?;
+    Some(Bounds { k, d })
+}
+
+fn main(rt: HostRuntime) {
+    match asked(rt) {
+        Some(q) => compare_files(rt, q),
+        None => say_help(rt),
+    }
 }

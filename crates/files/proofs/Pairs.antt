@@ -1,4 +1,6 @@
 -- Two files that were read. Assumes nothing.
+use Rattle.std.specs.Prelude as Prelude
+use Rattle.std.specs.Prelude.{Some, None}
 use mathlib.Core.Path.{◌≡◌, refl, sym, ap, ap₂, ◌∙◌, subst}
 use mathlib.Core.Bool.{Bool, true, false, cond, ◌||◌}
 use mathlib.Core.List.{List}
@@ -39,3 +41,11 @@ module _ {i j : ℕ} {first second : List ℕ} {one other : Fetched} {r : Two} (
 
 pub differ : {A : Type 0} → false ≡ true → A
 differ e = let z : ◌≡◌ {A = ℕ} 0 1 = ap (λ (b : Bool). cond b 1 0) e in absurd (omega (arith, z))
+
+-- a value that is there is not missing
+abbrev given : {B : Type 0} → Prelude.Option B → Bool
+given (Some x) = true
+given None = false
+
+pub not-none : {A B : Type 0} {o : Prelude.Option B} {x : B} → o ≡ Some x → o ≡ None → A
+not-none e f = differ (sym (ap given f) ∙ ap given e)

@@ -1,5 +1,5 @@
 -- What was read of a file and of two. Assumes nothing.
-use Rattle.std.specs.Prelude.{◌≡◌, true, false, ◌||◌, List, ℕ, length, take}
+use Rattle.std.specs.Prelude.{None, ◌≡◌, true, false, ◌||◌, List, ℕ, length, take}
 use Rattle.input.specs.Reading.{IsPrefixLen, is_failure}
 use Rattle.input.specs.Contents.{nothing, text_of, Whole}
 use Rattle.files.specs.declared.Word.{Word}
@@ -26,8 +26,8 @@ pub record FiledAs (name buf : List ℕ) (r : Filed) : Type 0 where
 
 -- the file that a word names: it was read by that name, and none was where the word is not all there
 pub record Names (w : Word) (f : NamedFile) : Type 0 where
-  pub named : w.whole ≡ true → name_of f ≡ take 4096 (word_of w)
-  pub missing : w.whole ≡ false → f.content ≡ nothing
+  pub named : w.lacks ≡ None → name_of f ≡ take 4096 (word_of w)
+  pub missing : (w.lacks ≡ None → ⊥) → f.content ≡ nothing
   pub whole : Whole f.content
 
 -- the file that argument i names was read into a buffer

@@ -7,10 +7,10 @@ ghost use Rattle.input.specs.Contents.{Whole, nothing};
 ghost use Rattle.arguments.specs.Arguments.{number_of, seed_of, place_of, meant};
 ghost use Rattle.files.specs.Reading.{name_of, FiledAs, Names, Read, BothRead};
 
-use arguments::Argument;
 use input::Content;
 use std::env::{Env, FillError};
 use std::fs::File;
+use std::io::Error;
 use std::str;
 
 // Numbers of the system's errors: no such argument, one that is too long, and a name that is no text.
@@ -22,8 +22,8 @@ const NO_TEXT: i32 = 84;
 
 // Writes a text to standard output.
 pub fn say(rt: HostRuntime, text: &[u8]) {
-    if let Err(code) = input::write_all(&rt, text) {
-        input::fail(rt, b"standard output", code);
+    if let Err(error) = input::write_all(&rt, text) {
+        input::fail(rt, b"standard output", error);
     }
 }
 
@@ -53,7 +53,7 @@ pub fn say_number(rt: HostRuntime, n: u64) {
 // Writes the line `refused n`.
 pub fn say_refused(rt: HostRuntime, n: u32) {
     say(rt, b"refused ");
-    say_number(rt, n as u64);
+    say_number(rt, u64::from(n));
     say(rt, b"\n");
 }
 
@@ -80,18 +80,20 @@ fn keep_name(name: &[u8], kept: &mut [u8]) -> usize
     room
 }
 
-// Opens the file with a name, or tells the number of the error. A name that is no text is that of no file.
-fn open(rt: HostRuntime, name: &[u8]) -> Result<File, i32> {
+// The error of the system with which opening a file failed.
+fn system_error(error: Error) -> Error {
+    Error::from_raw_os_error(error.raw_os_error().unwrap_or(INVALID))
+}
+
+// Opens the file with a name. A name that is no text is that of no file.
+fn open(rt: HostRuntime, name: &[u8]) -> Result<File, Error> {
     if name.len() >= 4096 {
-        return Err(TOO_LONG);
+        return Err(Error::from_raw_os_error(TOO_LONG));
     }
     let Ok(path) = str::from_utf8(name) else {
-        return Err(NO_TEXT);
+        return Err(Error::from_raw_os_error(NO_TEXT));
     };
-    match File::open(&rt, path) {
-        Ok(file) => Ok(file),
-        Err(error) => Err(error.raw_os_error().unwrap_or(INVALID)),
-    }
+    File::open(&rt, path).map_err(system_error)
 }
 
 // Reads the file with a name. That it is the file of this name is for the system to say.
@@ -102,12 +104,13 @@ fn read_named_content(rt: HostRuntime, name: &[u8]) -> Content
         Ok(mut file) => {
             let content = input::read_content(&mut file);
             if input::is_failed(content) {
-                input::fail(rt, name, input::error_of(content));
+                let error = Error::from_raw_os_error(input::error_of(content));
+                input::fail(rt, name, error);
             }
             content
         }
-        Err(code) => {
-            input::fail(rt, name, code);
+        Err(error) => {
+            input::fail(rt, name, error);
             input::unread()
         }
     }
@@ -144,7 +147,8 @@ pub fn content_of(file: NamedFile) -> Content
     file.content
 }
 
-// How many bytes stand in a buffer, whether a read failed, and the file. The last field is this crate's own.
+// How many bytes stand in a buffer, whether a read failed, and the file. The last field is this crate's own. What was read before a failure
+// is told too (`FiledAs`), so that the flag stands beside the count.
 #[derive(Clone, Copy)]
 pub struct Filed {
     pub count: usize,
@@ -167,54 +171,27 @@ pub fn read_named(rt: HostRuntime, name: &[u8], buf: &mut [u8]) -> Filed
     }
 }
 
-// An argument of the program: which it is, its bytes at the front, how many they are, and whether it is all there; where it is not, the
-// number of the error. The fields are this crate's own, so that a value of this type is one that `argument` made.
+// An argument of the program: which it is, its bytes at the front, how many they are, and what it lacks, where it is not all there. The
+// fields are this crate's own, so that a value of this type is one that `argument` made.
 #[derive(Clone, Copy)]
 pub struct Word {
     index: usize,
     bytes: [u8; 4096],
     count: usize,
-    whole: bool,
-    error: i32,
+    lacks: Option<FillError>,
 }
 
-// What the system gave for an argument: how many bytes, and the number of the error, 0 where the argument is all there.
-#[derive(Clone, Copy)]
-struct Filled {
-    count: usize,
-    error: i32,
-}
-
-// Copies argument i to the front of buf. One that is missing or has no room counts no byte.
-fn given(rt: HostRuntime, i: usize, buf: &mut [u8]) -> Filled
-    ensures { IsPrefixLen result.count buf.new }
-{
-    match rt.arg(i, buf) {
-        Ok(count) => Filled { count, error: 0 },
-        Err(FillError::NotPresent) => Filled {
-            count: 0,
-            error: INVALID,
-        },
-        Err(FillError::TooLong) => Filled {
-            count: 0,
-            error: TOO_LONG,
-        },
-    }
-}
-
-// Argument i. Which text it is, is said by the system.
+// Argument i. Which text it is, is said by the system. One that is missing or has no room counts no byte.
 pub fn argument(rt: HostRuntime, i: usize) -> Word
     ensures { (result.index ≡ i) × IsPrefixLen result.count result.bytes }
 {
     let mut bytes = [0u8; 4096];
-    let got = given(rt, i, &mut bytes);
-    let error = got.error;
+    let got = rt.arg(i, &mut bytes);
     Word {
         index: i,
         bytes,
-        count: got.count,
-        whole: error == 0,
-        error,
+        count: got.unwrap_or(0),
+        lacks: got.err(),
     }
 }
 
@@ -222,8 +199,7 @@ pub fn argument(rt: HostRuntime, i: usize) -> Word
 pub fn argument_text(rt: HostRuntime, i: usize, buf: &mut [u8]) -> usize
     ensures { IsPrefixLen result buf.new }
 {
-    let got = given(rt, i, buf);
-    got.count
+    rt.arg(i, buf).unwrap_or(0)
 }
 
 // How many arguments the program was started with, its own name among them. That is for the system to say: no clause could say more than
@@ -248,18 +224,30 @@ pub struct Fetched {
     file: NamedFile,
 }
 
+// The error of the system that is told for an argument that is not all there.
+fn lack_error(lack: FillError) -> Error {
+    match lack {
+        FillError::NotPresent => Error::from_raw_os_error(INVALID),
+        FillError::TooLong => Error::from_raw_os_error(TOO_LONG),
+    }
+}
+
 // The file that a word names, or none where the word is not all there.
 fn named_file(rt: HostRuntime, word: Word) -> NamedFile
     requires { IsPrefixLen word.count word.bytes }
     ensures { Names word result }
 {
-    if word.whole {
-        let name = word.bytes;
-        let count = word.count;
-        return read_file(rt, &name[..count]);
+    match word.lacks {
+        None => {
+            let name = word.bytes;
+            let count = word.count;
+            read_file(rt, &name[..count])
+        }
+        Some(lack) => {
+            input::fail(rt, b"argument", lack_error(lack));
+            no_file()
+        }
     }
-    input::fail(rt, b"argument", word.error);
-    no_file()
 }
 
 // Reads the file that argument i names.
@@ -292,7 +280,7 @@ fn skip_argument(rt: HostRuntime, i: usize) -> Fetched
 }
 
 // The number that a word is.
-pub fn number_of(word: Word) -> Argument
+pub fn number_of(word: Word) -> Option<u64>
     requires { IsPrefixLen word.count word.bytes }
     ensures { meant result ≡ number_of (take word.count word.bytes) }
 {
@@ -302,7 +290,7 @@ pub fn number_of(word: Word) -> Argument
 }
 
 // The seed that a word is.
-pub fn seed_of(word: Word) -> Argument
+pub fn seed_of(word: Word) -> Option<u64>
     requires { IsPrefixLen word.count word.bytes }
     ensures { meant result ≡ seed_of (take word.count word.bytes) }
 {
@@ -312,7 +300,7 @@ pub fn seed_of(word: Word) -> Argument
 }
 
 // The place that a word is.
-pub fn place_of(word: Word) -> Argument
+pub fn place_of(word: Word) -> Option<u64>
     requires { IsPrefixLen word.count word.bytes }
     ensures { meant result ≡ place_of (take word.count word.bytes) }
 {

@@ -3,7 +3,6 @@
 
 ghost use Rattle.std.specs.Prelude.{◌≡◌, length};
 
-use arguments::Argument;
 use files::{say, say_front};
 
 fn say_help(rt: HostRuntime) {
@@ -48,18 +47,19 @@ fn fold_file(rt: HostRuntime, b: u64, t: u64) {
     fold_with(rt, b, t, &mut work, &mut out);
 }
 
-fn main(rt: HostRuntime) {
+// What the arguments ask: FILE b t.
+fn asked(rt: HostRuntime) -> Option<(u64, u64)> {
     if files::argument_count(rt) != 4 {
-        say_help(rt);
-        return;
+        return None;
     }
-    let Argument::Number(b) = files::number_of(files::argument(rt, 2)) else {
-        say_help(rt);
-        return;
-    };
-    let Argument::Number(t) = files::number_of(files::argument(rt, 3)) else {
-        say_help(rt);
-        return;
-    };
-    fold_file(rt, b, t);
+    let b = files::number_of(files::argument(rt, 2))?;
+    let t = files::number_of(files::argument(rt, 3))?;
+    Some((b, t))
+}
+
+fn main(rt: HostRuntime) {
+    match asked(rt) {
+        Some((b, t)) => fold_file(rt, b, t),
+        None => say_help(rt),
+    }
 }

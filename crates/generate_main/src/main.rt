@@ -1,7 +1,6 @@
 // The program generate: the circuit of a seed and counts, as text.
 #![tactic(auto)]
 
-use arguments::Argument;
 use files::{say, say_front};
 
 fn say_help(rt: HostRuntime) {
@@ -22,40 +21,38 @@ fn say_help(rt: HostRuntime) {
     say(rt, b"\nExample: ./yunverok generate 1 2 2 4\n");
 }
 
+// What the arguments ask: a seed, and the counts I, L and A.
+#[derive(Clone, Copy)]
+struct Wanted {
+    seed: u64,
+    i: u64,
+    l: u64,
+    a: u64,
+}
+
 // Writes the circuit. No text is longer than 55,798 bytes.
-fn say_circuit(rt: HostRuntime, seed: u64, i: u64, l: u64, a: u64) {
+fn say_circuit(rt: HostRuntime, q: Wanted) {
     let mut out = [0u8; 55798];
     let mut line = [0u8; 128];
-    let report = generate_command::generate(seed, i, l, a, &mut out, &mut line);
+    let report = generate_command::generate(q.seed, q.i, q.l, q.a, &mut out, &mut line);
     say_front(rt, &line, report.line);
     say_front(rt, &out, report.out);
 }
 
-// The counts are arguments 2, 3 and 4.
-fn say_counted(rt: HostRuntime, seed: u64) {
-    let Argument::Number(i) = files::number_of(files::argument(rt, 2)) else {
-        say_help(rt);
-        return;
-    };
-    let Argument::Number(l) = files::number_of(files::argument(rt, 3)) else {
-        say_help(rt);
-        return;
-    };
-    let Argument::Number(a) = files::number_of(files::argument(rt, 4)) else {
-        say_help(rt);
-        return;
-    };
-    say_circuit(rt, seed, i, l, a);
+fn asked(rt: HostRuntime) -> Option<Wanted> {
+    if files::argument_count(rt) != 5 {
+        return None;
+    }
+    let seed = files::seed_of(files::argument(rt, 1))?;
+    let i = files::number_of(files::argument(rt, 2))?;
+    let l = files::number_of(files::argument(rt, 3))?;
+    let a = files::number_of(files::argument(rt, 4))?;
+    Some(Wanted { seed, i, l, a })
 }
 
 fn main(rt: HostRuntime) {
-    if files::argument_count(rt) != 5 {
-        say_help(rt);
-        return;
+    match asked(rt) {
+        Some(q) => say_circuit(rt, q),
+        None => say_help(rt),
     }
-    let Argument::Number(seed) = files::seed_of(files::argument(rt, 1)) else {
-        say_help(rt);
-        return;
-    };
-    say_counted(rt, seed);
 }

@@ -4,7 +4,6 @@
 
 ghost use Rattle.std.specs.Prelude.{◌≡◌, ◌≤◌, length};
 
-use arguments::Argument;
 use files::{say, say_front};
 use search::Terms;
 
@@ -21,18 +20,12 @@ struct Row {
 
 // The number that argument i is, 0 where it is none.
 fn number(rt: HostRuntime, i: usize) -> u64 {
-    match files::number_of(files::argument(rt, i)) {
-        Argument::Number(n) => n,
-        Argument::Malformed => 0,
-    }
+    files::number_of(files::argument(rt, i)).unwrap_or(0)
 }
 
 // The seed that argument i is, 0 where it is none.
 fn seed(rt: HostRuntime, i: usize) -> u64 {
-    match files::seed_of(files::argument(rt, i)) {
-        Argument::Number(n) => n,
-        Argument::Malformed => 0,
-    }
+    files::seed_of(files::argument(rt, i)).unwrap_or(0)
 }
 
 // The row whose file argument i names.

@@ -14,7 +14,7 @@ impl Source for File {}
 impl Source for Stdin {}
 
 // What a read gave: the number of bytes at the front of the buffer, 0 at the end of the file, and below 0 where it failed: then it is the
-// number of the error, turned about.
+// number of the error, turned about. One number, since `count_given`, `error_given` and `is_failure` of the clauses are said of it.
 #[derive(Clone, Copy)]
 pub struct Read {
     given: isize,

@@ -36,22 +36,16 @@ fn words_end(text: &[u8]) -> usize
     text.len()
 }
 
-// The number of an error, as the system counts them, or 0 where it is none of the system's.
-fn number_of(error: Error) -> i32 {
-    error.raw_os_error().unwrap_or(0)
-}
-
-// Writes all of text, or stops at the first write that takes nothing or fails and tells the number of the error, when some of text may have
+// Writes all of text, or stops at the first write that takes nothing, which is the system's error 0, or fails, when some of text may have
 // been written. One that a signal interrupts before it moves a byte counts as failed. On an empty text it makes no call.
-pub fn write_all<P: Print>(to: &P, text: &[u8]) -> Result<(), i32>
+pub fn write_all<P: Print>(to: &P, text: &[u8]) -> Result<(), Error>
     ensures { length text.now ≡ 0 → IsOk result }
 {
     let mut done: usize = 0;
     while done < text.len() {
-        match to.write_some(&text[done..]) {
-            Ok(0) => return Err(0),
-            Ok(n) => done += n,
-            Err(error) => return Err(number_of(error)),
+        match to.write_some(&text[done..])? {
+            0 => return Err(Error::from_raw_os_error(0)),
+            n => done += n,
         }
     }
     Ok(())
@@ -68,14 +62,15 @@ fn note_words(rt: HostRuntime, text: &[u8]) {
     note(rt, &text[..end]);
 }
 
-// Writes a line to standard error: what failed, as the caller names it, a colon and the words for the system's error of this number.
-pub fn fail(rt: HostRuntime, what: &[u8], code: i32) {
+// Writes a line to standard error: what failed, as the caller names it, a colon and the words for the system's error, which is 0 for an
+// error that is none of the system's.
+pub fn fail(rt: HostRuntime, what: &[u8], error: Error) {
     let mut words = Words {
         bytes: [0u8; 128],
         count: 0,
     };
-    let error = Error::from_raw_os_error(code);
-    let _ = fmt::Write::write(&mut words, error);
+    let code = error.raw_os_error().unwrap_or(0);
+    let _ = fmt::Write::write(&mut words, Error::from_raw_os_error(code));
     note(rt, what);
     note(rt, b": ");
     note_words(rt, &words.bytes);

@@ -4,6 +4,7 @@ ghost use Rattle.input.specs.Reading.{Gave};
 ghost use Rattle.panel_input.specs.Line.{empty_line, missed_read, input_end, line_feed, keep_byte, step, GoesOn};
 
 use input::Read;
+use std::io::Error;
 
 // A read of one byte: the byte, and what the read gave.
 #[derive(Clone, Copy)]
@@ -181,7 +182,8 @@ fn say_failure(rt: HostRuntime, l: RequestLine, r: ByteRead) {
     let read = r.read;
     if input::has_failed(read) {
         if l.missed == 0 {
-            input::fail(rt, b"standard input", input::read_error_of(read));
+            let error = Error::from_raw_os_error(input::read_error_of(read));
+            input::fail(rt, b"standard input", error);
         }
     }
 }

@@ -8,6 +8,7 @@ use native.Mathlib.Omega.{arith}
 use borrow.Author.Tests.{le-leb, lt-leb}
 use lib.ListN.{length, take, drop, drop_of_length-le}
 use lib.Seq.{drop-cons}
+use Rattle.std.specs.Prelude.{Some, None}
 use Rattle.aiger.specs.Lists.{same}
 use Rattle.aiger.specs.Text.{bytes, when, ◌>>=◌, ◌>>◌}
 use Rattle.arguments.specs.Arguments.{number_of}
@@ -45,7 +46,7 @@ use Rattle.panel_lines.specs.declared.View.{View}
 use Rattle.panel_lines.specs.declared.View.TheVariants.{Replay, Widen, Waveform}
 use Rattle.panel_lines.specs.declared.Query.TheVariants.{Pin, Search, Fold, Write, Generate, SearchFrom}
 use Rattle.panel_lines.specs.declared.Task.{Task}
-use Rattle.panel_lines.specs.declared.Task.TheVariants.{Ask, Load, Preview, Join, Witness, Malformed}
+use Rattle.panel_lines.specs.declared.Task.TheVariants.{Ask, Load, Preview, Join, Witness}
 use Rattle.panel_lines.specs.declared.Request.{Request}
 
 -- the form that a word is
@@ -58,36 +59,36 @@ unfolding form_of
 form-number w e f = rw (← e) f
 
 module _ (s : List ℕ) (at : ℕ) where
-  pub pin-none : none ≡ two_numbers (drop at s) → TaskIs s (pin_of (drop at s)) Malformed
+  pub pin-none : none ≡ two_numbers (drop at s) → TaskIs s (pin_of (drop at s)) None
   unfolding pin_of
   pin-none e = record { meaning = rw (← e); parts = tt }
 
-  pub pin-all : (a b : ℕ) → some (a, b) ≡ two_numbers (drop at s) → TaskIs s (pin_of (drop at s)) (Ask (Pin a b))
+  pub pin-all : (a b : ℕ) → some (a, b) ≡ two_numbers (drop at s) → TaskIs s (pin_of (drop at s)) (Some (Ask (Pin a b)))
   unfolding pin_of
   pin-all a b e = record { meaning = rw (← e); parts = tt }
 
-  pub fold-none : none ≡ two_numbers (drop at s) → TaskIs s (fold_of (drop at s)) Malformed
+  pub fold-none : none ≡ two_numbers (drop at s) → TaskIs s (fold_of (drop at s)) None
   unfolding fold_of
   fold-none e = record { meaning = rw (← e); parts = tt }
 
-  pub fold-all : (a b : ℕ) → some (a, b) ≡ two_numbers (drop at s) → TaskIs s (fold_of (drop at s)) (Ask (Fold a b))
+  pub fold-all : (a b : ℕ) → some (a, b) ≡ two_numbers (drop at s) → TaskIs s (fold_of (drop at s)) (Some (Ask (Fold a b)))
   unfolding fold_of
   fold-all a b e = record { meaning = rw (← e); parts = tt }
 
-  pub search-none : number (drop at s) ≡ none → TaskIs s (search_of (drop at s)) Malformed
+  pub search-none : number (drop at s) ≡ none → TaskIs s (search_of (drop at s)) None
   unfolding search_of
   search-none e = record { meaning = rw e; parts = tt }
 
   module _ {b next : ℕ} (x : NumberAt s at b next) where
-    pub search-half : none ≡ two_numbers (drop next s) → TaskIs s (search_of (drop at s)) Malformed
+    pub search-half : none ≡ two_numbers (drop next s) → TaskIs s (search_of (drop at s)) None
     unfolding search_of
     search-half e = record { meaning = rw (x.number_is, ← e); parts = tt }
 
-    pub search-all : (k d : ℕ) → some (k, d) ≡ two_numbers (drop next s) → TaskIs s (search_of (drop at s)) (Ask (Search b k d))
+    pub search-all : (k d : ℕ) → some (k, d) ≡ two_numbers (drop next s) → TaskIs s (search_of (drop at s)) (Some (Ask (Search b k d)))
     unfolding search_of
     search-all k d e = record { meaning = rw (x.number_is, ← e); parts = tt }
 
-  pub write-text : length s ≤ at → TaskIs s (write_of (drop at s)) (Ask (Write 0))
+  pub write-text : length s ≤ at → TaskIs s (write_of (drop at s)) (Some (Ask (Write 0)))
   unfolding write_of
   write-text h = record { meaning = rw (drop_of_length-le s {i = at} h); parts = tt }
 
@@ -97,100 +98,100 @@ module _ (s : List ℕ) (at : ℕ) where
     unfolding write_of
     write_word = rw (drop-cons s at 0 h)
 
-    pub write-none : one_name (drop at s) ≡ none → TaskIs s (write_of (drop at s)) Malformed
+    pub write-none : one_name (drop at s) ≡ none → TaskIs s (write_of (drop at s)) None
     write-none e = record { meaning = sym (write_word ∙ rw e); parts = tt }
 
     module _ {p : Part} (w : NameAt s at p) where
-      pub write-wrong : none ≡ form_of (bytes_of s p) → TaskIs s (write_of (drop at s)) Malformed
+      pub write-wrong : none ≡ form_of (bytes_of s p) → TaskIs s (write_of (drop at s)) None
       write-wrong e = record { meaning = sym (write_word ∙ rw (w.name-is, ← e)); parts = tt }
 
-      pub write-form : (n : ℕ) → some n ≡ form_of (bytes_of s p) → TaskIs s (write_of (drop at s)) (Ask (Write n))
+      pub write-form : (n : ℕ) → some n ≡ form_of (bytes_of s p) → TaskIs s (write_of (drop at s)) (Some (Ask (Write n)))
       write-form n e = record { meaning = sym (write_word ∙ rw (w.name-is, ← e)); parts = tt }
 
-  pub load-none : one_name (drop at s) ≡ none → TaskIs s (load_of (drop at s)) Malformed
+  pub load-none : one_name (drop at s) ≡ none → TaskIs s (load_of (drop at s)) None
   unfolding load_of
   load-none e = record { meaning = rw e; parts = tt }
 
-  pub load-all : {p : Part} → NameAt s at p → TaskIs s (load_of (drop at s)) (Load p)
+  pub load-all : {p : Part} → NameAt s at p → TaskIs s (load_of (drop at s)) (Some (Load p))
   unfolding load_of
   load-all n = record { meaning = rw n.name-is; parts = n.inside }
 
-  pub preview-none : one_name (drop at s) ≡ none → TaskIs s (preview_of (drop at s)) Malformed
+  pub preview-none : one_name (drop at s) ≡ none → TaskIs s (preview_of (drop at s)) None
   unfolding preview_of
   preview-none e = record { meaning = rw e; parts = tt }
 
-  pub preview-all : {p : Part} → NameAt s at p → TaskIs s (preview_of (drop at s)) (Preview p)
+  pub preview-all : {p : Part} → NameAt s at p → TaskIs s (preview_of (drop at s)) (Some (Preview p))
   unfolding preview_of
   preview-all n = record { meaning = rw n.name-is; parts = n.inside }
 
-  pub join-none : word (drop at s) ≡ none → TaskIs s (join_of (drop at s)) Malformed
+  pub join-none : word (drop at s) ≡ none → TaskIs s (join_of (drop at s)) None
   unfolding join_of
   join-none e = record { meaning = rw e; parts = tt }
 
   module _ {p : Part} (w : WordAt s at p) where
-    pub join-half : one_name (drop p.to s) ≡ none → TaskIs s (join_of (drop at s)) Malformed
+    pub join-half : one_name (drop p.to s) ≡ none → TaskIs s (join_of (drop at s)) None
     unfolding join_of
     join-half e = record { meaning = rw (w.word-is, e); parts = tt }
 
-    pub join-all : {q : Part} → NameAt s p.to q → TaskIs s (join_of (drop at s)) (Join p q)
+    pub join-all : {q : Part} → NameAt s p.to q → TaskIs s (join_of (drop at s)) (Some (Join p q))
     unfolding join_of
     join-all n = record { meaning = rw (w.word-is, n.name-is); parts = (w.inside, n.inside) }
 
-    pub waveform-half : none ≡ flag_of (bytes "inputs") (drop p.to s) → TaskIs s (waveform_of (drop at s)) Malformed
+    pub waveform-half : none ≡ flag_of (bytes "inputs") (drop p.to s) → TaskIs s (waveform_of (drop at s)) None
     unfolding waveform_of
     waveform-half e = record { meaning = rw (w.word-is, ← e); parts = tt }
 
     pub waveform-all : (b : Bool) → some b ≡ flag_of (bytes "inputs") (drop p.to s)
-        → TaskIs s (waveform_of (drop at s)) (Witness (Waveform b) p)
+        → TaskIs s (waveform_of (drop at s)) (Some (Witness (Waveform b) p))
     unfolding waveform_of
     waveform-all b e = record { meaning = rw (w.word-is, ← e); parts = w.inside }
 
-  pub waveform-none : word (drop at s) ≡ none → TaskIs s (waveform_of (drop at s)) Malformed
+  pub waveform-none : word (drop at s) ≡ none → TaskIs s (waveform_of (drop at s)) None
   unfolding waveform_of
   waveform-none e = record { meaning = rw e; parts = tt }
 
-  pub generate-none : seed (drop at s) ≡ none → TaskIs s (generate_of (drop at s)) Malformed
+  pub generate-none : seed (drop at s) ≡ none → TaskIs s (generate_of (drop at s)) None
   unfolding generate_of
   generate-none e = record { meaning = rw e; parts = tt }
 
   module _ {n counts : ℕ} (x : SeedAt s at n counts) where
-    pub generate-seed : number (drop counts s) ≡ none → TaskIs s (generate_of (drop at s)) Malformed
+    pub generate-seed : number (drop counts s) ≡ none → TaskIs s (generate_of (drop at s)) None
     unfolding generate_of
     generate-seed e = record { meaning = rw (x.seed-is, e); parts = tt }
 
     module _ {i next : ℕ} (y : NumberAt s counts i next) where
-      pub generate-half : none ≡ two_numbers (drop next s) → TaskIs s (generate_of (drop at s)) Malformed
+      pub generate-half : none ≡ two_numbers (drop next s) → TaskIs s (generate_of (drop at s)) None
       unfolding generate_of
       generate-half e = record { meaning = rw (x.seed-is, y.number_is, ← e); parts = tt }
 
-      pub generate-all : (l a : ℕ) → some (l, a) ≡ two_numbers (drop next s) → TaskIs s (generate_of (drop at s)) (Ask (Generate n i l a))
+      pub generate-all : (l a : ℕ) → some (l, a) ≡ two_numbers (drop next s) → TaskIs s (generate_of (drop at s)) (Some (Ask (Generate n i l a)))
       unfolding generate_of
       generate-all l a e = record { meaning = rw (x.seed-is, y.number_is, ← e); parts = tt }
 
-  pub from-none : number (drop at s) ≡ none → TaskIs s (search_from_of (drop at s)) Malformed
+  pub from-none : number (drop at s) ≡ none → TaskIs s (search_from_of (drop at s)) None
   unfolding search_from_of
   from-none e = record { meaning = rw e; parts = tt }
 
   module _ {b frame : ℕ} (x : NumberAt s at b frame) where
-    pub from-line : number (drop frame s) ≡ none → TaskIs s (search_from_of (drop at s)) Malformed
+    pub from-line : number (drop frame s) ≡ none → TaskIs s (search_from_of (drop at s)) None
     unfolding search_from_of
     from-line e = record { meaning = rw (x.number_is, e); parts = tt }
 
     module _ {t next : ℕ} (y : NumberAt s frame t next) where
-      pub from-half : none ≡ place_number (drop next s) → TaskIs s (search_from_of (drop at s)) Malformed
+      pub from-half : none ≡ place_number (drop next s) → TaskIs s (search_from_of (drop at s)) None
       unfolding search_from_of
       from-half e = record { meaning = rw (x.number_is, y.number_is, ← e); parts = tt }
 
-      pub from_all : (p d : ℕ) → some (p, d) ≡ place_number (drop next s) → TaskIs s (search_from_of (drop at s)) (Ask (SearchFrom b t p d))
+      pub from_all : (p d : ℕ) → some (p, d) ≡ place_number (drop next s) → TaskIs s (search_from_of (drop at s)) (Some (Ask (SearchFrom b t p d)))
       unfolding search_from_of
       from_all p d e = record { meaning = rw (x.number_is, y.number_is, ← e); parts = tt }
 
   module _ (v : View) where
-    pub view-none : one_name (drop at s) ≡ none → TaskIs s (view_of v (drop at s)) Malformed
+    pub view-none : one_name (drop at s) ≡ none → TaskIs s (view_of v (drop at s)) None
     unfolding view_of
     view-none e = record { meaning = rw e; parts = tt }
 
-    pub view-all : {p : Part} → NameAt s at p → TaskIs s (view_of v (drop at s)) (Witness v p)
+    pub view-all : {p : Part} → NameAt s at p → TaskIs s (view_of v (drop at s)) (Some (Witness v p))
     unfolding view_of
     view-all n = record { meaning = rw n.name-is; parts = n.inside }
 
@@ -217,43 +218,47 @@ module _ (s : List ℕ) (at : ℕ) where
         flag-other e = sym (flag_word ∙ rw (n.name-is, ← e))
 
 -- the table of verbs with one verb more before it
-pub verb-more : (b : Bool) (v : Verb) {r x y : Verb} → r ≡ cond b v x → x ≡ y → r ≡ cond b v y
-verb-more b v e f = e ∙ ap (cond b v) f
+pub verb-more : (b : Bool) (v : Verb) {r x y : Option Verb} → r ≡ cond b (some v) x → x ≡ y → r ≡ cond b (some v) y
+verb-more b v e f = e ∙ ap (cond b (some v)) f
 
 -- ---- a request
-
--- a request that is no command
-malformed-is : (s : List ℕ) (c : Option (ℕ × Command)) (r : Request) → r.task ≡ Malformed → none ≡ c → RequestIs s c r
-malformed-is s c r e n =
-    record {
-      meaning = ap (λ (t : Task). task_of s t >>= λ k. some (r.user, k)) e ∙ n;
-      parts = subst (PartsInside s) (sym e) tt;
-    }
 
 -- the first word of a request
 first_word : (s : List ℕ) {end : ℕ} → Ends s 0 end → split s ≡ (take end s, drop end s)
 first_word s {end} w = let z : end - 0 ≡ end = omega arith in rw z at w.word-is
 
-module _ (s : List ℕ) (r : Request) (e : r.task ≡ Malformed) where
-  pub too_long : 4096 < length s → RequestIs s (parse s) r
+module _ (s : List ℕ) where
+  pub too_long : 4096 < length s → RequestIs s (parse s) None
   unfolding parse
-  too_long h = malformed-is s (parse s) r e (rw (lt-leb (length s) 4096 h))
+  too_long h = record { meaning = rw (lt-leb (length s) 4096 h); parts = tt }
 
   module _ (short : length s ≤ 4096) {end : ℕ} (w : Ends s 0 end) where
-    pub no-user : none ≡ number_of (take end s) → RequestIs s (parse s) r
+    pub no-user : none ≡ number_of (take end s) → RequestIs s (parse s) None
     unfolding parse
-    no-user n = malformed-is s (parse s) r e (rw (le-leb (length s) 4096 short, first_word s w, ← n))
+    no-user n = record { meaning = rw (le-leb (length s) 4096 short, first_word s w, ← n); parts = tt }
 
-    pub no-verb : {user : ℕ} → some user ≡ number_of (take end s) → word (drop end s) ≡ none → RequestIs s (parse s) r
-    unfolding parse
-    no-verb u n = malformed-is s (parse s) r e (rw (le-leb (length s) 4096 short, first_word s w, ← u, n))
+    module _ {user : ℕ} (u : some user ≡ number_of (take end s)) where
+      pub no_word_left : word (drop end s) ≡ none → RequestIs s (parse s) None
+      unfolding parse
+      no_word_left n = record { meaning = rw (le-leb (length s) 4096 short, first_word s w, ← u, n); parts = tt }
 
-pub whole : (s : List ℕ) → length s ≤ 4096 → {end : ℕ} → Ends s 0 end → {user : ℕ} → some user ≡ number_of (take end s)
-    → {p : Part} → WordAt s end p → {v : Verb} → v ≡ verb_of (bytes_of s p) → {t : Task} → TaskIs s (command_of v (drop p.to s)) t
-    → RequestIs s (parse s) (record { user = user; task = t })
-unfolding parse
-whole s short w u p v t =
-    record {
-      meaning = rw (le-leb (length s) 4096 short, first_word s w, ← u, p.word-is, ← v, ← t.meaning);
-      parts = t.parts;
-    }
+      module _ {p : Part} (a : WordAt s end p) where
+        pub no-verb : none ≡ verb_of (bytes_of s p) → RequestIs s (parse s) None
+        unfolding parse
+        no-verb v =
+            record { meaning = rw (le-leb (length s) 4096 short, first_word s w, ← u, a.word-is, ← v); parts = tt }
+
+        module _ {v : Verb} (e : some v ≡ verb_of (bytes_of s p)) where
+          pub no-task : TaskIs s (command_of v (drop p.to s)) None → RequestIs s (parse s) None
+          unfolding parse
+          no-task t =
+              record { meaning = rw (le-leb (length s) 4096 short, first_word s w, ← u, a.word-is, ← e, ← t.meaning); parts = tt }
+
+          pub whole : {t : Task} → TaskIs s (command_of v (drop p.to s)) (Some t)
+              → RequestIs s (parse s) (Some (record { user = user; task = t }))
+          unfolding parse
+          whole t =
+              record {
+                meaning = rw (le-leb (length s) 4096 short, first_word s w, ← u, a.word-is, ← e, ← t.meaning);
+                parts = t.parts;
+              }

@@ -175,11 +175,11 @@ verbs =
     ∷ []
 
 -- the verb that a table gives for a word
-abbrev pub among : List (List ℕ × Verb) → List ℕ → Verb
-among [] w = Verb.Unknown
-among (v ∷ vs) w = cond (same w v.0) v.1 (among vs w)
+abbrev pub among : List (List ℕ × Verb) → List ℕ → Option Verb
+among [] w = none
+among (v ∷ vs) w = cond (same w v.0) (some v.1) (among vs w)
 
-abbrev pub verb_of : List ℕ → Verb
+abbrev pub verb_of : List ℕ → Option Verb
 verb_of w = among verbs w
 
 -- a verb with what follows it
@@ -196,13 +196,13 @@ command_of Verb.Widen s = view_of Widen s
 command_of Verb.Waveform s = waveform_of s
 command_of Verb.Generate s = generate_of s
 command_of Verb.SearchFrom s = search_from_of s
-command_of Verb.Unknown s = none
 
 -- a request of at most 4,096 bytes, without the line feed: the user, and the command
 unfoldable pub parse : List ℕ → Option (ℕ × Command)
 parse request = do
   when (leb (length request) 4096)
   user ← number_of (split request).0
-  verb ← word (split request).1
-  command ← command_of (verb_of verb.0) verb.1
+  word ← word (split request).1
+  verb ← verb_of word.0
+  command ← command_of verb word.1
   some (user, command)

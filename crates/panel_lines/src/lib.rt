@@ -3,6 +3,7 @@
 
 ghost use Rattle.std.specs.Prelude.{◌≡◌, cond, ◌≤◌, length, drop};
 ghost use Rattle.aiger.specs.Lists.{same};
+ghost use Rattle.std.proofs.Math.Option.{some};
 ghost use Rattle.arguments.specs.Arguments.{meant};
 ghost use Rattle.panel_lines.specs.Grammar.{
   two_numbers,
@@ -32,14 +33,10 @@ ghost use Rattle.panel_lines.specs.Reading.{
   NumberIs,
   SeedIs,
   PlaceIs,
-  two_of,
   NameIs,
-  given_of,
   TaskIs,
   RequestIs,
 };
-
-use arguments::Argument;
 
 // A part of a request: from its first byte to the one past its last.
 #[derive(Clone, Copy)]
@@ -48,7 +45,7 @@ pub struct Part {
     pub to: usize,
 }
 
-// The word after the user's number. Unknown is any that is no verb.
+// The word after the user's number.
 #[derive(Clone, Copy)]
 enum Verb {
     Pin,
@@ -63,7 +60,6 @@ enum Verb {
     Waveform,
     Generate,
     SearchFrom,
-    Unknown,
 }
 
 // What asks about the loaded circuit, sets a pin of it, or needs no circuit.
@@ -93,7 +89,6 @@ pub enum Task {
     Preview(Part),
     Join(Part, Part),
     Witness(View, Part),
-    Malformed,
 }
 
 // Who asks, and what for.
@@ -101,33 +96,6 @@ pub enum Task {
 pub struct Request {
     pub user: u64,
     pub task: Task,
-}
-
-#[derive(Clone, Copy)]
-enum Word {
-    At(Part),
-    Missing,
-}
-
-// A word that is a number, and where it ends.
-#[derive(Clone, Copy)]
-enum NumberWord {
-    Value(u64, usize),
-    Wrong,
-}
-
-// The only two numbers.
-#[derive(Clone, Copy)]
-enum Two {
-    Both(u64, u64),
-    Neither,
-}
-
-// Whether a word that may be given is given. Unknown is any other.
-#[derive(Clone, Copy)]
-enum Flag {
-    Given(bool),
-    Unknown,
 }
 
 // Where the word that begins at a position ends: at the next space, or with the request.
@@ -146,173 +114,133 @@ fn word_end(request: &[u8], from: usize) -> usize
 }
 
 // The word after the space at a position. It is not empty.
-fn word_after(request: &[u8], at: usize) -> Word
+fn word_after(request: &[u8], at: usize) -> Option<Part>
     requires { at ≤ length request.now }
     ensures { WordIs request.now at result }
 {
     if at == request.len() {
-        return Word::Missing;
+        return None;
     }
     let from = at + 1;
     let to = word_end(request, from);
     if to == from {
-        return Word::Missing;
+        return None;
     }
-    Word::At(Part { from, to })
+    Some(Part { from, to })
 }
 
-// The number after the space at a position.
-fn number_after(request: &[u8], at: usize) -> NumberWord
+// The number after the space at a position, and where it ends.
+fn number_after(request: &[u8], at: usize) -> Option<(u64, usize)>
     requires { at ≤ length request.now }
     ensures { NumberIs request.now at result }
 {
-    let Word::At(part) = word_after(request, at) else {
-        return NumberWord::Wrong;
-    };
-    let from = part.from;
-    let to = part.to;
-    match arguments::read_argument(&request[from..to]) {
-        Argument::Number(n) => NumberWord::Value(n, to),
-        Argument::Malformed => NumberWord::Wrong,
-    }
+    let Part { from, to } = word_after(request, at)?;
+    let n = arguments::read_argument(&request[from..to])?;
+    Some((n, to))
 }
 
-// The seed after the space at a position.
-fn seed_after(request: &[u8], at: usize) -> NumberWord
+// The seed after the space at a position, and where it ends.
+fn seed_after(request: &[u8], at: usize) -> Option<(u64, usize)>
     requires { at ≤ length request.now }
     ensures { SeedIs request.now at result }
 {
-    let Word::At(part) = word_after(request, at) else {
-        return NumberWord::Wrong;
-    };
-    let from = part.from;
-    let to = part.to;
-    match arguments::read_seed(&request[from..to]) {
-        Argument::Number(n) => NumberWord::Value(n, to),
-        Argument::Malformed => NumberWord::Wrong,
-    }
+    let Part { from, to } = word_after(request, at)?;
+    let n = arguments::read_seed(&request[from..to])?;
+    Some((n, to))
 }
 
-// The place after the space at a position.
-fn place_after(request: &[u8], at: usize) -> NumberWord
+// The place after the space at a position, and where it ends.
+fn place_after(request: &[u8], at: usize) -> Option<(u64, usize)>
     requires { at ≤ length request.now }
     ensures { PlaceIs request.now at result }
 {
-    let Word::At(part) = word_after(request, at) else {
-        return NumberWord::Wrong;
-    };
-    let from = part.from;
-    let to = part.to;
-    match arguments::read_place(&request[from..to]) {
-        Argument::Number(n) => NumberWord::Value(n, to),
-        Argument::Malformed => NumberWord::Wrong,
-    }
+    let Part { from, to } = word_after(request, at)?;
+    let n = arguments::read_place(&request[from..to])?;
+    Some((n, to))
 }
 
 // The place and the number after a position, where nothing follows them.
-fn place_number(request: &[u8], at: usize) -> Two
+fn place_number(request: &[u8], at: usize) -> Option<(u64, u64)>
     requires { at ≤ length request.now }
-    ensures { two_of result ≡ place_number (drop at request.now) }
+    ensures { meant result ≡ place_number (drop at request.now) }
 {
-    let NumberWord::Value(a, next) = place_after(request, at) else {
-        return Two::Neither;
-    };
-    let NumberWord::Value(b, end) = number_after(request, next) else {
-        return Two::Neither;
-    };
+    let (a, next) = place_after(request, at)?;
+    let (b, end) = number_after(request, next)?;
     if end < request.len() {
-        return Two::Neither;
+        return None;
     }
-    Two::Both(a, b)
+    Some((a, b))
 }
 
 // The two numbers after a position, where nothing follows them.
-fn two_numbers(request: &[u8], at: usize) -> Two
+fn two_numbers(request: &[u8], at: usize) -> Option<(u64, u64)>
     requires { at ≤ length request.now }
-    ensures { two_of result ≡ two_numbers (drop at request.now) }
+    ensures { meant result ≡ two_numbers (drop at request.now) }
 {
-    let NumberWord::Value(a, next) = number_after(request, at) else {
-        return Two::Neither;
-    };
-    let NumberWord::Value(b, end) = number_after(request, next) else {
-        return Two::Neither;
-    };
+    let (a, next) = number_after(request, at)?;
+    let (b, end) = number_after(request, next)?;
     if end < request.len() {
-        return Two::Neither;
+        return None;
     }
-    Two::Both(a, b)
+    Some((a, b))
 }
 
 // The word after a position, where nothing follows it.
-fn one_name(request: &[u8], at: usize) -> Word
+fn one_name(request: &[u8], at: usize) -> Option<Part>
     requires { at ≤ length request.now }
     ensures { NameIs request.now at result }
 {
-    let Word::At(name) = word_after(request, at) else {
-        return Word::Missing;
-    };
+    let name = word_after(request, at)?;
     if name.to < request.len() {
-        return Word::Missing;
+        return None;
     }
-    Word::At(name)
+    Some(name)
 }
 
 // The arguments `INPUT VALUE` of pin.
-fn read_pin(request: &[u8], at: usize) -> Task
+fn read_pin(request: &[u8], at: usize) -> Option<Task>
     requires { at ≤ length request.now }
     ensures { TaskIs request.now (pin_of (drop at request.now)) result }
 {
-    let Two::Both(input, value) = two_numbers(request, at) else {
-        return Task::Malformed;
-    };
-    Task::Ask(Query::Pin(input, value))
+    let (input, value) = two_numbers(request, at)?;
+    Some(Task::Ask(Query::Pin(input, value)))
 }
 
 // The arguments `b k D` of search.
-fn read_search(request: &[u8], at: usize) -> Task
+fn read_search(request: &[u8], at: usize) -> Option<Task>
     requires { at ≤ length request.now }
     ensures { TaskIs request.now (search_of (drop at request.now)) result }
 {
-    let NumberWord::Value(b, next) = number_after(request, at) else {
-        return Task::Malformed;
-    };
-    let Two::Both(k, d) = two_numbers(request, next) else {
-        return Task::Malformed;
-    };
-    Task::Ask(Query::Search(b, k, d))
+    let (b, next) = number_after(request, at)?;
+    let (k, d) = two_numbers(request, next)?;
+    Some(Task::Ask(Query::Search(b, k, d)))
 }
 
 // The arguments `b t` of fold.
-fn read_fold(request: &[u8], at: usize) -> Task
+fn read_fold(request: &[u8], at: usize) -> Option<Task>
     requires { at ≤ length request.now }
     ensures { TaskIs request.now (fold_of (drop at request.now)) result }
 {
-    let Two::Both(b, t) = two_numbers(request, at) else {
-        return Task::Malformed;
-    };
-    Task::Ask(Query::Fold(b, t))
+    let (b, t) = two_numbers(request, at)?;
+    Some(Task::Ask(Query::Fold(b, t)))
 }
 
 // The argument FILE of load.
-fn read_load(request: &[u8], at: usize) -> Task
+fn read_load(request: &[u8], at: usize) -> Option<Task>
     requires { at ≤ length request.now }
     ensures { TaskIs request.now (load_of (drop at request.now)) result }
 {
-    let Word::At(file) = one_name(request, at) else {
-        return Task::Malformed;
-    };
-    Task::Load(file)
+    let file = one_name(request, at)?;
+    Some(Task::Load(file))
 }
 
 // The argument FILE of preview.
-fn read_preview(request: &[u8], at: usize) -> Task
+fn read_preview(request: &[u8], at: usize) -> Option<Task>
     requires { at ≤ length request.now }
     ensures { TaskIs request.now (preview_of (drop at request.now)) result }
 {
-    let Word::At(file) = one_name(request, at) else {
-        return Task::Malformed;
-    };
-    Task::Preview(file)
+    let file = one_name(request, at)?;
+    Some(Task::Preview(file))
 }
 
 // Whether a part of a request is a word.
@@ -326,54 +254,46 @@ fn is_word(request: &[u8], part: Part, word: &[u8]) -> bool
 }
 
 // The arguments `OLD NEW` of join.
-fn read_join(request: &[u8], at: usize) -> Task
+fn read_join(request: &[u8], at: usize) -> Option<Task>
     requires { at ≤ length request.now }
     ensures { TaskIs request.now (join_of (drop at request.now)) result }
 {
-    let Word::At(old) = word_after(request, at) else {
-        return Task::Malformed;
-    };
-    let Word::At(new) = one_name(request, old.to) else {
-        return Task::Malformed;
-    };
-    Task::Join(old, new)
+    let old = word_after(request, at)?;
+    let new = one_name(request, old.to)?;
+    Some(Task::Join(old, new))
 }
 
 // The argument WITNESS of a view.
-fn read_view(request: &[u8], at: usize, view: View) -> Task
+fn read_view(request: &[u8], at: usize, view: View) -> Option<Task>
     requires { at ≤ length request.now }
     ensures { TaskIs request.now (view_of view (drop at request.now)) result }
 {
-    let Word::At(witness) = one_name(request, at) else {
-        return Task::Malformed;
-    };
-    Task::Witness(view, witness)
+    let witness = one_name(request, at)?;
+    Some(Task::Witness(view, witness))
 }
 
 // Whether a word that may be given is all that follows a position, or nothing does.
-fn read_flag(request: &[u8], at: usize, word: &[u8]) -> Flag
+fn read_flag(request: &[u8], at: usize, word: &[u8]) -> Option<bool>
     requires { at ≤ length request.now }
-    ensures { given_of result ≡ flag_of word.now (drop at request.now) }
+    ensures { meant result ≡ flag_of word.now (drop at request.now) }
 {
     if at == request.len() {
-        return Flag::Given(false);
+        return Some(false);
     }
-    let Word::At(given) = one_name(request, at) else {
-        return Flag::Unknown;
-    };
+    let given = one_name(request, at)?;
     if is_word(request, given, word) {
-        return Flag::Given(true);
+        return Some(true);
     }
-    Flag::Unknown
+    None
 }
 
 // The form that a part of a request is.
-fn read_form(request: &[u8], part: Part) -> Argument
+fn read_form(request: &[u8], part: Part) -> Option<u64>
     requires { Inside request.now part }
     ensures { meant result ≡ form_of (bytes_of request.now part) }
 {
     if is_word(request, part, b"binary") {
-        return Argument::Number(1);
+        return Some(1);
     }
     let from = part.from;
     let to = part.to;
@@ -381,87 +301,73 @@ fn read_form(request: &[u8], part: Part) -> Argument
 }
 
 // The argument `[binary | FORM]` of write.
-fn read_write(request: &[u8], at: usize) -> Task
+fn read_write(request: &[u8], at: usize) -> Option<Task>
     requires { at ≤ length request.now }
     ensures { TaskIs request.now (write_of (drop at request.now)) result }
 {
     if at == request.len() {
-        return Task::Ask(Query::Write(0));
+        return Some(Task::Ask(Query::Write(0)));
     }
-    let Word::At(part) = one_name(request, at) else {
-        return Task::Malformed;
-    };
-    let Argument::Number(form) = read_form(request, part) else {
-        return Task::Malformed;
-    };
-    Task::Ask(Query::Write(form))
+    let part = one_name(request, at)?;
+    let form = read_form(request, part)?;
+    Some(Task::Ask(Query::Write(form)))
 }
 
 // The arguments `WITNESS [inputs]` of waveform.
-fn read_waveform(request: &[u8], at: usize) -> Task
+fn read_waveform(request: &[u8], at: usize) -> Option<Task>
     requires { at ≤ length request.now }
     ensures { TaskIs request.now (waveform_of (drop at request.now)) result }
 {
-    let Word::At(witness) = word_after(request, at) else {
-        return Task::Malformed;
-    };
-    let Flag::Given(only) = read_flag(request, witness.to, b"inputs") else {
-        return Task::Malformed;
-    };
-    Task::Witness(View::Waveform(only), witness)
+    let witness = word_after(request, at)?;
+    let only = read_flag(request, witness.to, b"inputs")?;
+    Some(Task::Witness(View::Waveform(only), witness))
 }
 
 // The arguments `SEED I L A` of generate.
-fn read_generate(request: &[u8], at: usize) -> Task
+fn read_generate(request: &[u8], at: usize) -> Option<Task>
     requires { at ≤ length request.now }
     ensures { TaskIs request.now (generate_of (drop at request.now)) result }
 {
-    let NumberWord::Value(seed, counts) = seed_after(request, at) else {
-        return Task::Malformed;
-    };
-    let NumberWord::Value(i, next) = number_after(request, counts) else {
-        return Task::Malformed;
-    };
-    let Two::Both(l, a) = two_numbers(request, next) else {
-        return Task::Malformed;
-    };
-    Task::Ask(Query::Generate(seed, i, l, a))
+    let (seed, counts) = seed_after(request, at)?;
+    let (i, next) = number_after(request, counts)?;
+    let (l, a) = two_numbers(request, next)?;
+    Some(Task::Ask(Query::Generate(seed, i, l, a)))
 }
 
 // The arguments `b t PLACE D` of search-from.
-fn read_search_from(request: &[u8], at: usize) -> Task
+fn read_search_from(request: &[u8], at: usize) -> Option<Task>
     requires { at ≤ length request.now }
     ensures { TaskIs request.now (search_from_of (drop at request.now)) result }
 {
-    let NumberWord::Value(b, frame) = number_after(request, at) else {
-        return Task::Malformed;
-    };
-    let NumberWord::Value(t, next) = number_after(request, frame) else {
-        return Task::Malformed;
-    };
-    let Two::Both(place, d) = place_number(request, next) else {
-        return Task::Malformed;
-    };
-    Task::Ask(Query::SearchFrom(b, t, place, d))
+    let (b, frame) = number_after(request, at)?;
+    let (t, next) = number_after(request, frame)?;
+    let (place, d) = place_number(request, next)?;
+    Some(Task::Ask(Query::SearchFrom(b, t, place, d)))
 }
 
-// A verb where a part of a request is its word, and another where it is not.
-fn verb_where(request: &[u8], part: Part, word: &[u8], verb: Verb, other: Verb) -> Verb
+// A verb where a part of a request is its word, and what another answer says where it is not.
+fn verb_where(
+    request: &[u8],
+    part: Part,
+    word: &[u8],
+    verb: Verb,
+    other: Option<Verb>,
+) -> Option<Verb>
     requires { Inside request.now part }
-    ensures { result ≡ cond (same (bytes_of request.now part) word.now) verb other }
+    ensures { meant result ≡ cond (same (bytes_of request.now part) word.now) (some verb) (meant other) }
 {
     if is_word(request, part, word) {
-        return verb;
+        return Some(verb);
     }
     other
 }
 
 // The verb that a part of a request is.
-fn verb_of(request: &[u8], part: Part) -> Verb
+fn verb_of(request: &[u8], part: Part) -> Option<Verb>
     requires { Inside request.now part }
-    ensures { result ≡ verb_of (bytes_of request.now part) }
+    ensures { meant result ≡ verb_of (bytes_of request.now part) }
 {
-    let verb = Verb::Unknown;
+    let verb = None;
     let verb = verb_where(request, part, b"search-from", Verb::SearchFrom, verb);
     let verb = verb_where(request, part, b"generate", Verb::Generate, verb);
     let verb = verb_where(request, part, b"waveform", Verb::Waveform, verb);
@@ -477,7 +383,7 @@ fn verb_of(request: &[u8], part: Part) -> Verb
 }
 
 // The command of a verb, with what follows it.
-fn read_task(request: &[u8], at: usize, verb: Verb) -> Task
+fn read_task(request: &[u8], at: usize, verb: Verb) -> Option<Task>
     requires { at ≤ length request.now }
     ensures { TaskIs request.now (command_of verb (drop at request.now)) result }
 {
@@ -494,34 +400,20 @@ fn read_task(request: &[u8], at: usize, verb: Verb) -> Task
         Verb::Waveform => read_waveform(request, at),
         Verb::Generate => read_generate(request, at),
         Verb::SearchFrom => read_search_from(request, at),
-        Verb::Unknown => Task::Malformed,
     }
 }
 
-// What is read from a request that is no command.
-fn malformed() -> Request
-    ensures { result.task ≡ Task.Malformed }
-{
-    Request {
-        user: 0,
-        task: Task::Malformed,
-    }
-}
-
-// The user and the task of a request. The line feed that ended its line is no part of it.
-pub fn read_request(request: &[u8]) -> Request
+// The user and the task of a request, where it is a command. The line feed that ended its line is no part of it.
+pub fn read_request(request: &[u8]) -> Option<Request>
     ensures { RequestIs request.now (parse request.now) result }
 {
     if 4096 < request.len() {
-        return malformed();
+        return None;
     }
     let end = word_end(request, 0);
-    let Argument::Number(user) = arguments::read_argument(&request[..end]) else {
-        return malformed();
-    };
-    let Word::At(part) = word_after(request, end) else {
-        return malformed();
-    };
-    let task = read_task(request, part.to, verb_of(request, part));
-    Request { user, task }
+    let user = arguments::read_argument(&request[..end])?;
+    let part = word_after(request, end)?;
+    let verb = verb_of(request, part)?;
+    let task = read_task(request, part.to, verb)?;
+    Some(Request { user, task })
 }

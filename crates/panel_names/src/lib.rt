@@ -19,7 +19,9 @@ pub enum Names {
 pub fn files_of(request: &[u8]) -> Names
     ensures { (names_of request.now result ≡ named_by (parse request.now)) × NamesInside request.now result }
 {
-    let asked = panel_lines::read_request(request);
+    let Some(asked) = panel_lines::read_request(request) else {
+        return Names::Zero;
+    };
     let task = asked.task;
     match task {
         Task::Ask(_) => Names::Zero,
@@ -27,6 +29,5 @@ pub fn files_of(request: &[u8]) -> Names
         Task::Preview(file) => Names::One(file),
         Task::Join(old, new) => Names::Two(old, new),
         Task::Witness(_, file) => Names::One(file),
-        Task::Malformed => Names::Zero,
     }
 }

@@ -3,6 +3,7 @@ use mathlib.Core.Path.{◌≡◌, ap, ◌∙◌}
 use mathlib.Core.Bool.{Bool, false, cond}
 use mathlib.Core.List.{List, []}
 use mathlib.Core.Option.{some}
+use Rattle.std.specs.Prelude.{Some}
 use Prim.Native.Nat.{ℕ, ◌≤◌}
 use native.Mathlib.Omega.{arith}
 use lib.Dec.{eqb}
@@ -23,8 +24,8 @@ use Rattle.panel_names.proofs.Requests.{requested}
 use Rattle.panel_session.proofs.Turns.{answered-alone}
 
 -- a command that names files
-pub lacks : {request : List ℕ} {r : Request} {task : Task} {q : Response} (c : Command) → RequestIs request (parse request) r → r.task ≡ task
-    → task_of request task ≡ some c → eqb (length (files_of c)) 0 ≡ false → LineAlone q (cond (may_ask r.user c) (bytes "unreadable\n") (refusal_text 18))
+pub lacks : {request : List ℕ} {r : Request} {task : Task} {q : Response} (c : Command) → RequestIs request (parse request) (Some r) → r.task ≡ task
+    → task_of request (Some task) ≡ some c → eqb (length (files_of c)) 0 ≡ false → LineAlone q (cond (may_ask r.user c) (bytes "unreadable\n") (refusal_text 18))
     → (s : State) (out : List ℕ) → Answered request Files.missing s out q s out
 lacks {r = r} c i e f z y =
     λ s out.
@@ -37,6 +38,6 @@ lacks {r = r} c i e f z y =
     y
 
 -- a query names none
-pub unnamed : {request : List ℕ} {r : Request} {task : Task} (q : Query) → RequestIs request (parse request) r → r.task ≡ task
-    → task_of request task ≡ some (Command.query q) → 1 ≤ length (named_by (parse request)) → ⊥
+pub unnamed : {request : List ℕ} {r : Request} {task : Task} (q : Query) → RequestIs request (parse request) (Some r) → r.task ≡ task
+    → task_of request (Some task) ≡ some (Command.query q) → 1 ≤ length (named_by (parse request)) → ⊥
 unnamed q i e f l = let z = ap (λ (o : _). length (named_by o)) (requested i e f) in omega (arith, z, l)

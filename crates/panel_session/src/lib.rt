@@ -74,7 +74,9 @@ pub fn unreadable(request: &[u8]) -> Response
     requires { 1 ≤ length (named_by (parse request.now)) }
     ensures { (s : State) (out : List ℕ) → Answered request.now Files.missing s out result s out }
 {
-    let asked = panel_lines::read_request(request);
+    let Some(asked) = panel_lines::read_request(request) else {
+        return malformed();
+    };
     let user = asked.user;
     let task = asked.task;
     match task {
@@ -83,7 +85,6 @@ pub fn unreadable(request: &[u8]) -> Response
         Task::Preview(_) => missing(user <= 1),
         Task::Join(_, _) => missing(user == 0),
         Task::Witness(_, _) => missing(user <= 1),
-        Task::Malformed => malformed(),
     }
 }
 
@@ -102,7 +103,9 @@ pub fn respond(
         (record { memory = m.old; work = work.old; pins = pins.old }) out.old result
         (record { memory = m.new; work = work.new; pins = pins.new }) out.new }
 {
-    let asked = panel_lines::read_request(request);
+    let Some(asked) = panel_lines::read_request(request) else {
+        return malformed();
+    };
     let user = asked.user;
     let task = asked.task;
     let mut line = [0u8; 128];
@@ -127,6 +130,5 @@ pub fn respond(
             let r = panel_files::view(user, v, first, m, pins, out, &mut line);
             response_of(line, r)
         }
-        Task::Malformed => malformed(),
     }
 }

@@ -3,7 +3,6 @@
 
 ghost use Rattle.std.specs.Prelude.{◌≡◌, length};
 
-use arguments::Argument;
 use files::{note_front, say, say_front};
 use search::Terms;
 
@@ -60,22 +59,20 @@ fn search_file(rt: HostRuntime, q: Terms) {
     search_with(rt, q, &mut work);
 }
 
-fn main(rt: HostRuntime) {
+// What the arguments ask: FILE b k D.
+fn asked(rt: HostRuntime) -> Option<Terms> {
     if files::argument_count(rt) != 5 {
-        say_help(rt);
-        return;
+        return None;
     }
-    let Argument::Number(b) = files::number_of(files::argument(rt, 2)) else {
-        say_help(rt);
-        return;
-    };
-    let Argument::Number(k) = files::number_of(files::argument(rt, 3)) else {
-        say_help(rt);
-        return;
-    };
-    let Argument::Number(d) = files::number_of(files::argument(rt, 4)) else {
-        say_help(rt);
-        return;
-    };
-    search_file(rt, Terms { b, k, d });
+    let b = files::number_of(files::argument(rt, 2))?;
+    let k = files::number_of(files::argument(rt, 3))?;
+    let d = files::number_of(files::argument(rt, 4))?;
+    Some(Terms { b, k, d })
+}
+
+fn main(rt: HostRuntime) {
+    match asked(rt) {
+        Some(q) => search_file(rt, q),
+        None => say_help(rt),
+    }
 }

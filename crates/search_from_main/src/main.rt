@@ -3,7 +3,6 @@
 
 ghost use Rattle.std.specs.Prelude.{◌≡◌, length};
 
-use arguments::Argument;
 use files::{say, say_front};
 use place_limits::PlaceTerms;
 
@@ -67,31 +66,21 @@ fn search_file(rt: HostRuntime, q: PlaceTerms) {
     search_with(rt, q, &mut work);
 }
 
-// The place and the budget are arguments 4 and 5.
-fn search_at(rt: HostRuntime, b: u64, t: u64) {
-    let Argument::Number(place) = files::place_of(files::argument(rt, 4)) else {
-        say_help(rt);
-        return;
-    };
-    let Argument::Number(d) = files::number_of(files::argument(rt, 5)) else {
-        say_help(rt);
-        return;
-    };
-    search_file(rt, PlaceTerms { b, t, place, d });
+// What the arguments ask: FILE b t PLACE D.
+fn asked(rt: HostRuntime) -> Option<PlaceTerms> {
+    if files::argument_count(rt) != 6 {
+        return None;
+    }
+    let b = files::number_of(files::argument(rt, 2))?;
+    let t = files::number_of(files::argument(rt, 3))?;
+    let place = files::place_of(files::argument(rt, 4))?;
+    let d = files::number_of(files::argument(rt, 5))?;
+    Some(PlaceTerms { b, t, place, d })
 }
 
 fn main(rt: HostRuntime) {
-    if files::argument_count(rt) != 6 {
-        say_help(rt);
-        return;
+    match asked(rt) {
+        Some(q) => search_file(rt, q),
+        None => say_help(rt),
     }
-    let Argument::Number(b) = files::number_of(files::argument(rt, 2)) else {
-        say_help(rt);
-        return;
-    };
-    let Argument::Number(t) = files::number_of(files::argument(rt, 3)) else {
-        say_help(rt);
-        return;
-    };
-    search_at(rt, b, t);
 }

@@ -25,10 +25,7 @@ fn say_argument(rt: HostRuntime, i: usize) {
 }
 
 fn main(rt: HostRuntime) {
-    let count = files::argument_count(rt);
-    let mut i: usize = 1;
-    while i < count {
+    for i in 1..files::argument_count(rt) {
         say_argument(rt, i);
-        i += 1;
     }
 }
