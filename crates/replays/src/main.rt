@@ -35,9 +35,7 @@ fn say_pair(rt: HostRuntime, i: usize, j: usize) {
 
 fn main(rt: HostRuntime) {
     let count = files::argument_count(rt);
-    let mut k: usize = 0;
-    while k < count / 2 {
+    for k in 0..count / 2 {
         say_pair(rt, 2 * k + 1, 2 * k + 2);
-        k += 1;
     }
 }
