@@ -23,8 +23,7 @@ use Rattle.reasons.specs.Claims.{Sound}
 use Rattle.reasons.proofs.Valid.{sound-alike}
 use Rattle.resolve.specs.Draft.{draft_at}
 use Rattle.resolve.proofs.Sound.{InDraft, Drafting}
-use Rattle.floor.specs.declared.AtFloor.{AtFloor}
-use Rattle.floor.specs.declared.AtFloor.TheVariants.{FalseBy, NotFalse}
+use Rattle.std.specs.Prelude.{Option, Some, None}
 use Rattle.floor.specs.declared.Refutation.{Refutation}
 use Rattle.floor.specs.declared.Refutation.TheVariants.{Raised, NoHit, Unlearnt}
 use Rattle.floor.specs.Place.{risen, bit_of, floor_bit, is_wrong, later, judged, raised, raised_by, refuted}
@@ -51,19 +50,19 @@ later-node net l top n = rw (ne_eqb l (opposite net.root) n) (go (ltb top (l / 2
     go false e = ltb-false top (l / 2) e
 
 -- whether a clause is false at the floor, and by how many free bits
-is_false : AtFloor → Bool
-is_false (FalseBy m) = true
-is_false NotFalse = false
+is_false : Option ℕ → Bool
+is_false (Some m) = true
+is_false None = false
 
-bits_of : AtFloor → ℕ
-bits_of (FalseBy m) = m
-bits_of NotFalse = 0
+bits_of : Option ℕ → ℕ
+bits_of (Some m) = m
+bits_of None = 0
 
-not-false : {r : ℕ} → NotFalse ≡ FalseBy r → ⊥
+not-false : {r : ℕ} → None ≡ Some r → ⊥
 unfolding is_false
 not-false e = never (sym (ap is_false e))
 
-false-by : {m r : ℕ} → FalseBy m ≡ FalseBy r → m ≡ r
+false-by : {m r : ℕ} → Some m ≡ Some r → m ≡ r
 unfolding bits_of
 false-by e = ap bits_of e
 
@@ -118,7 +117,7 @@ module _ (w : List ℕ) (net : Netlist) (arena : Arena) where
     pub right : (i : ℕ) → i < k → is_wrong w net (draft_at w net arena i) ≡ false
     pub last : (i : ℕ) → i < k → (draft_at w net arena i ≡ opposite net.root → ⊥) → draft_at w net arena i / 2 ≤ r
 
-  judge-seen : (k top r : ℕ) → judged w net arena k top ≡ FalseBy r → top ≤ net.free → Seen k r × (top ≤ r)
+  judge-seen : (k top r : ℕ) → judged w net arena k top ≡ Some r → top ≤ net.free → Seen k r × (top ≤ r)
   unfolding judged
   judge-seen zero top r e h =
       let f = false-by e in
@@ -127,8 +126,8 @@ module _ (w : List ℕ) (net : Netlist) (arena : Arena) where
       go (is_wrong w net (draft_at w net arena k)) refl e (λ q f. judge-seen k (later net (draft_at w net arena k) top) r f q)
     where
       go : (b : Bool) → is_wrong w net (draft_at w net arena k) ≡ b
-          → cond b NotFalse (judged w net arena k (later net (draft_at w net arena k) top)) ≡ FalseBy r
-          → (later net (draft_at w net arena k) top ≤ net.free → judged w net arena k (later net (draft_at w net arena k) top) ≡ FalseBy r
+          → cond b None (judged w net arena k (later net (draft_at w net arena k) top)) ≡ Some r
+          → (later net (draft_at w net arena k) top ≤ net.free → judged w net arena k (later net (draft_at w net arena k) top) ≡ Some r
           → Seen k r × (later net (draft_at w net arena k) top ≤ r))
           → Seen (suc k) r × (top ≤ r)
       go true q f rec = absurd (not-false f)
@@ -196,13 +195,13 @@ module _ (hit : (ℕ → Bool) → Type 0) (net : Netlist) (arena : Arena) (hits
   unfolding refuted raised_by
   refute-claim w d given clean floor = go d.whole refl (judged w net arena d.length 0) refl
     where
-      go : (b : Bool) → d.whole ≡ b → (j : AtFloor) → judged w net arena d.length 0 ≡ j
+      go : (b : Bool) → d.whole ≡ b → (j : Option ℕ) → judged w net arena d.length 0 ≡ j
           → Claim hits net.free net.nodes (cond b (raised_by w net j) (risen w Unlearnt)).words (cond b (raised_by w net j) (risen w
           Unlearnt)).says
           × Sound hit net arena (cond b (raised_by w net j) (risen w Unlearnt)).words
       go false e j c = (floor, given.sound)
-      go true e NotFalse c = (floor, given.sound)
-      go true e (FalseBy k) c =
+      go true e None c = (floor, given.sound)
+      go true e (Some k) c =
           let seen = (judge-seen w net arena d.length 0 k c (omega arith)).0 in
           let above =
           above-start net.free (bits w net.nodes) (digits w net.nodes) hits k seen.small floor

@@ -11,8 +11,7 @@ use Rattle.memory.specs.declared.Netlist.{Netlist}
 use Rattle.memory.specs.declared.Arena.{Arena}
 use Rattle.memory.specs.declared.Draft.{Draft}
 use Rattle.clauses.specs.Floor.{prefix}
-use Rattle.floor.specs.declared.AtFloor.{AtFloor}
-use Rattle.floor.specs.declared.AtFloor.TheVariants.{FalseBy, NotFalse}
+use Rattle.std.specs.Prelude.{Option, Some, None}
 use Rattle.floor.specs.declared.Refutation.TheVariants.{NoHit, Unlearnt}
 use Rattle.floor.specs.Place.{Risen, risen, is_idle, bit_of, judged, raised, raised_by, refuted}
 use Rattle.floor.proofs.Rise.{bits, node_of, Before, raise-after, raise-rises}
@@ -56,7 +55,7 @@ module _ (net : Netlist) (arena : Arena) (small : net.free < net.nodes) (w : Lis
   unfolding refuted raised_by
   refute-leaves d = go d.whole (judged w net arena d.length 0)
     where
-      go : (a : Bool) (j : AtFloor) → Leaves net w (cond a (raised_by w net j) (risen w Unlearnt))
-      go true NotFalse = leaves-refl
-      go true (FalseBy m) = raise-leaves m
+      go : (a : Bool) (j : Option ℕ) → Leaves net w (cond a (raised_by w net j) (risen w Unlearnt))
+      go true None = leaves-refl
+      go true (Some m) = raise-leaves m
       go false j = leaves-refl

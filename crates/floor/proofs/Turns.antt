@@ -8,8 +8,7 @@ use Rattle.memory.specs.Record.{stored}
 use Rattle.memory.specs.declared.Netlist.{Netlist}
 use Rattle.memory.specs.declared.Arena.{Arena}
 use Rattle.resolve.specs.Draft.{draft_at}
-use Rattle.floor.specs.declared.AtFloor.{AtFloor}
-use Rattle.floor.specs.declared.AtFloor.TheVariants.{FalseBy, NotFalse}
+use Rattle.std.specs.Prelude.{Some, None}
 use Rattle.floor.specs.declared.Refutation.{Refutation}
 use Rattle.floor.specs.declared.Refutation.TheVariants.{Raised, NoHit, Unlearnt}
 use Rattle.floor.specs.Place.{risen, is_wrong, later, judged, cleared, lifted, can_rise, raised, node_value, evaluated}
@@ -17,13 +16,13 @@ use Rattle.floor.specs.Place.{risen, is_wrong, later, judged, cleared, lifted, c
 pred : (n : ℕ) → n ≡ suc n - 1
 pred n = omega arith
 
-pub judged-none : (w : List ℕ) (net : Netlist) (arena : Arena) (k top : ℕ) → k ≡ 0 → judged w net arena k top ≡ FalseBy top
+pub judged-none : (w : List ℕ) (net : Netlist) (arena : Arena) (k top : ℕ) → k ≡ 0 → judged w net arena k top ≡ Some top
 unfolding judged
 judged-none w net arena zero top e = refl
 judged-none w net arena (suc k) top e = absurd (omega arith)
 
 pub judged-wrong : (w : List ℕ) (net : Netlist) (arena : Arena) (k top : ℕ) → 0 < k → is_wrong w net (draft_at w net arena (k - 1)) ≡ true
-    → judged w net arena k top ≡ NotFalse
+    → judged w net arena k top ≡ None
 unfolding judged
 judged-wrong w net arena zero top l e = absurd (omega arith)
 judged-wrong w net arena (suc k) top l e = let f = ap (λ (j : ℕ). is_wrong w net (draft_at w net arena j)) (pred k) in rw (f, e)

@@ -1,12 +1,10 @@
 -- The floor in memory: the test that a clause is false there, the raise, and evaluation, as functions of the words. Assumes nothing.
-use Rattle.std.specs.Prelude.{◌≡◌, Bool, true, false, not, cond, ◌&&◌, List, ℕ, zero, suc, ◌+◌, ◌-◌, ◌*◌, ◌/◌, ◌%◌, eqb, leb, ltb}
+use Rattle.std.specs.Prelude.{◌≡◌, Bool, true, false, not, cond, ◌&&◌, Option, Some, None, List, ℕ, zero, suc, ◌+◌, ◌-◌, ◌*◌, ◌/◌, ◌%◌, eqb, leb, ltb}
 use Rattle.memory.specs.Record.{field, stored, bit_at, opposite}
 use Rattle.memory.specs.declared.Netlist.{Netlist}
 use Rattle.memory.specs.declared.Arena.{Arena}
 use Rattle.memory.specs.declared.Draft.{Draft}
 use Rattle.resolve.specs.Draft.{draft_at}
-use Rattle.floor.specs.declared.AtFloor.{AtFloor}
-use Rattle.floor.specs.declared.AtFloor.TheVariants.{FalseBy, NotFalse}
 use Rattle.floor.specs.declared.Refutation.{Refutation}
 use Rattle.floor.specs.declared.Refutation.TheVariants.{Raised, NoHit, Unlearnt}
 
@@ -41,10 +39,10 @@ unfoldable pub later : Netlist → ℕ → ℕ → ℕ
 later net l top = cond (eqb l (opposite net.root)) top (cond (ltb top (l / 2)) (l / 2) top)
 
 -- what the first k literals of the working clause are, where those after them name free bits up to `top`
-unfoldable pub judged : List ℕ → Netlist → Arena → ℕ → ℕ → AtFloor
-judged w net arena zero top = FalseBy top
+unfoldable pub judged : List ℕ → Netlist → Arena → ℕ → ℕ → Option ℕ
+judged w net arena zero top = Some top
 judged w net arena (suc k) top =
-    cond (is_wrong w net (draft_at w net arena k)) NotFalse (judged w net arena k (later net (draft_at w net arena k) top))
+    cond (is_wrong w net (draft_at w net arena k)) None (judged w net arena k (later net (draft_at w net arena k) top))
 
 -- node v is idle: its operands differ. A free bit that does not lead to the hit is so where the floor begins at a place other than 0: it
 -- is the conjunction of itself and true, and its bit of the floor may be 1 until a bit before it rises
@@ -75,9 +73,9 @@ raised w nodes m (suc v) =
     cond (can_rise w nodes m (suc v)) (risen (lifted w nodes (suc v)) (Raised (suc v))) (raised (cleared w nodes (suc v)) nodes m v)
 
 -- by a clause
-unfoldable pub raised_by : List ℕ → Netlist → AtFloor → Risen
-raised_by w net (FalseBy m) = raised w net.nodes m net.free
-raised_by w net NotFalse = risen w Unlearnt
+unfoldable pub raised_by : List ℕ → Netlist → Option ℕ → Risen
+raised_by w net (Some m) = raised w net.nodes m net.free
+raised_by w net None = risen w Unlearnt
 
 unfoldable pub refuted : List ℕ → Netlist → Arena → Draft → Risen
 refuted w net arena d = cond d.whole (raised_by w net (judged w net arena d.length 0)) (risen w Unlearnt)

@@ -7,13 +7,6 @@ ghost use Rattle.floor.specs.Place as P;
 
 use memory::{Arena, Draft, FACT, Netlist, POS, field, literal, opposite, set_field};
 
-// What a clause is at the floor: false by the first so many free bits, or not seen to be false.
-#[derive(Clone, Copy)]
-enum AtFloor {
-    FalseBy(u32),
-    NotFalse,
-}
-
 // What a clause does to the floor: the bit of this node becomes 1; no place is left, so that there is no hit; nothing is learnt.
 #[derive(Clone, Copy)]
 pub enum Refutation {
@@ -58,22 +51,20 @@ fn later(net: Netlist, l: u32, top: u32) -> u32
     if top < l / 2 { l / 2 } else { top }
 }
 
-// What the first n literals of the working clause are: not false where one of them is wrong, else false by the free bits up to the last
-// that they name.
-fn test_clause(work: &[u32], net: Netlist, arena: Arena, n: u32) -> AtFloor
+// By how many free bits the first n literals of the working clause are false at the floor: up to the last that they name, or none where
+// one of them is wrong.
+fn test_clause(work: &[u32], net: Netlist, arena: Arena, n: u32) -> Option<u32>
     ensures { result ≡ P.judged work.now net arena n 0 }
 {
-    let mut left = n;
     let mut top = 0;
-    while 0 < left {
-        left -= 1;
-        let l = literal(work, net.nodes, arena.used, left);
+    for i in (0..n).rev() {
+        let l = literal(work, net.nodes, arena.used, i);
         if is_wrong(work, net, l) {
-            return AtFloor::NotFalse;
+            return None;
         }
         top = later(net, l, top);
     }
-    AtFloor::FalseBy(top)
+    Some(top)
 }
 
 // Whether node v is idle: its operands differ.
@@ -120,14 +111,13 @@ fn can_rise(work: &[u32], nodes: u32, m: u32, v: u32) -> bool
 fn raise(work: &mut [u32], nodes: u32, m: u32, n: u32) -> Refutation
     ensures { P.RiseLeft work.new result (P.raised work.old nodes m n) }
 {
-    let mut v = n;
-    while 0 < v {
+    for k in (0..n).rev() {
+        let v = k + 1;
         if can_rise(work, nodes, m, v) {
             lift(work, nodes, v);
             return Refutation::Raised(v);
         }
         clear(work, nodes, v);
-        v -= 1;
     }
     Refutation::NoHit
 }
@@ -137,7 +127,7 @@ pub fn refute(work: &mut [u32], net: Netlist, arena: Arena, d: Draft) -> Refutat
     ensures { P.RiseLeft work.new result (P.refuted work.old net arena d) }
 {
     if d.whole {
-        let AtFloor::FalseBy(m) = test_clause(work, net, arena, d.length) else {
+        let Some(m) = test_clause(work, net, arena, d.length) else {
             return Refutation::Unlearnt;
         };
         return raise(work, net.nodes, m, net.free);
@@ -176,11 +166,9 @@ fn value(work: &[u32], net: Netlist, v: u32) -> u32
 fn evaluate(work: &mut [u32], net: Netlist, n: u32)
     ensures { work.new ≡ P.evaluated work.old net 0 n }
 {
-    let mut v = 0;
-    while v < n {
+    for v in 0..n {
         let x = value(work, net, v);
         set_field(work, net.nodes, v, POS, x);
-        v += 1;
     }
 }
 

@@ -17,7 +17,7 @@ unfolding P.refuted P.raised_by
 returns-2 c = rw (
   ← c.test_clause.ensures,
   c.if-d.true,
-  c.in-FalseBy.is,
+  c.in-Some.is,
 ) c.raise.ensures
 
 returns-3 : tie.Need-returns
