@@ -34,18 +34,6 @@ struct Turn {
     t: usize,
 }
 
-// Copies words that are as many.
-fn copy(from: &[u32], to: &mut [u32])
-    requires { length to.old ≡ length from.now }
-    ensures { to.new ≡ from.now }
-{
-    let mut i = 0;
-    while i < to.len() {
-        to[i] = from[i];
-        i += 1;
-    }
-}
-
 // The least start state of set t.
 fn start(
     w: &mut [u32],
@@ -62,7 +50,7 @@ fn start(
     ensures { F.seen (Z.sets_of w.new table.now) result bits.new
         ≡ T.start_seen (F.setup_in s frees.now base.now) t (Z.sets_of w.old table.now) }
 {
-    copy(base, bits);
+    bits.copy_from_slice(base);
     set_walk::least_start(w, table, s, t, frees, bits)
 }
 

@@ -53,15 +53,12 @@ pub fn list_frees(m: &[u32], layout: Layout, latches: &[u32], frees: &mut [u32])
     ensures { (take result frees.new ≡ frees_of (circuit_in m.now) latches.now)
         × (result ≡ length (frees_of (circuit_in m.now) latches.now)) × (result ≤ 1024) }
 {
-    let count = layout.l;
     let mut n = 0;
-    let mut j = 0;
-    while j < count {
+    for j in 0..layout.l {
         if is_free(m, layout, j) {
             frees[n] = trace_bits::rank_of(latches, j as u32) as u32;
             n += 1;
         }
-        j += 1;
     }
     n
 }
@@ -72,10 +69,8 @@ pub fn put_base(m: &[u32], layout: Layout, latches: &[u32], base: &mut [u32])
     requires base_len { length base.old ≡ length latches.now }
     ensures { base.new ≡ base_of (circuit_in m.now) latches.now }
 {
-    let mut v = 0;
-    while v < latches.len() {
+    for v in 0..latches.len() {
         base[v] = reset_word(m, layout, latches[v] as usize);
-        v += 1;
     }
 }
 
@@ -83,12 +78,10 @@ pub fn put_base(m: &[u32], layout: Layout, latches: &[u32], base: &mut [u32])
 pub fn are_distinct(xs: &[u32]) -> bool
     ensures { result ≡ T.is_distinct xs.now }
 {
-    let mut v = 0usize;
-    while v < xs.len() {
+    for v in 0..xs.len() {
         if trace_bits::rank_of(xs, xs[v]) < v {
             return false;
         }
-        v += 1;
     }
     true
 }
