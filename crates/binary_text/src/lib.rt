@@ -103,14 +103,12 @@ pub fn write_gates(
         out.new }
 {
     let mut end = at;
-    let mut j: usize = 0;
-    while j < count {
+    for j in 0..count {
         let p = first + 3 * order[j] as usize;
         let lit = renumber::rename_word(names, m[p]);
         let left = renumber::rename_word(names, m[p + 1]);
         let right = renumber::rename_word(names, m[p + 2]);
         end = write_gate(lit, left, right, out, end);
-        j += 1;
     }
     end
 }

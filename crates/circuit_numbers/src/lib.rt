@@ -16,13 +16,11 @@ fn read_gates(m: &[u32], first: usize, n: usize, vars: &mut [u32], ops: &mut [u3
     requires { (first + 3 * n ≤ length m.now) × (n ≤ length vars.old) × (2 * n ≤ length ops.old) }
     ensures { Read m.now first n vars.new ops.new }
 {
-    let mut i: usize = 0;
-    while i < n {
+    for i in 0..n {
         let p = first + 3 * i;
         vars[i] = m[p] / 2;
         ops[2 * i] = m[p + 1] / 2;
         ops[2 * i + 1] = m[p + 2] / 2;
-        i += 1;
     }
 }
 

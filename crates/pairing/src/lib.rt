@@ -35,10 +35,8 @@ fn put_inputs(m: &mut [u32], n: usize)
     requires { (n ≤ 256) × (7 + n ≤ length m.old) }
     ensures { Put 7 (λ i. 2 * (i + 1)) n m.old m.new }
 {
-    let mut i: usize = 0;
-    while i < n {
+    for i in 0..n {
         m[7 + i] = Lit(Var(i as u32 + 1), false).word() as u32;
-        i += 1;
     }
 }
 
@@ -47,10 +45,8 @@ fn put_bads(m: &mut [u32], to: usize, n: usize, v: Var)
     requires { (n ≤ 16) × (v.0 ≤ 4096) × (to + n ≤ length m.old) }
     ensures { Put to (λ j. 2 * (v.0 + 3 * j + 2) + 1) n m.old m.new }
 {
-    let mut j: usize = 0;
-    while j < n {
+    for j in 0..n {
         m[to + j] = Lit(Var(v.0 + 3 * j as u32 + 2), true).word() as u32;
-        j += 1;
     }
 }
 
@@ -152,15 +148,10 @@ fn put_pairs(
 {
     let to = pairs_from(p, q);
     let v = pairs_var(p, q);
-    let n = p.o;
-    let at = p.outputs;
-    let from = q.outputs;
-    let mut j: usize = 0;
-    while j < n {
-        let x = rename(first, Lit::from_word(a[at + j]));
-        let y = rename(second, Lit::from_word(b[from + j]));
+    for j in 0..p.o {
+        let x = rename(first, Lit::from_word(a[p.outputs + j]));
+        let y = rename(second, Lit::from_word(b[q.outputs + j]));
         put_pair(m, to + 9 * j, Var(v.0 + 3 * j as u32), x, y);
-        j += 1;
     }
 }
 
