@@ -28,9 +28,9 @@ ghost use Rattle.fold.specs.Chosen.{chosen};
 ghost use Rattle.fold.specs.Answer.{answered, FoldFits, FoldShown};
 
 use layout::Layout;
-use limits::Ruling;
 use literals::{Lit, Var};
 use nodes::{Edge, Graph, NUMBER, RIGHT};
+use refusals::Refusal;
 
 // What is folded: the hit of bad line b at frame t.
 #[derive(Clone, Copy)]
@@ -135,20 +135,17 @@ fn write_folded(work: &[u32], g: Graph, root: Edge, kept: usize, out: &mut [u8])
     write_gates(work, g, out, gates)
 }
 
-// The number of the first of the tests 10 to 13 that fails, or that all pass. room is the words of working memory and len the bytes of
-// output.
-pub fn check_fold(layout: Layout, b: u64, t: u64, room: usize, len: usize) -> Ruling
+// The first of the tests 10 to 13 that fails, or that all pass. room is the words of working memory and len the bytes of output.
+pub fn check_fold(layout: Layout, b: u64, t: u64, room: usize, len: usize) -> Result<(), Refusal>
     requires { Limited layout }
     ensures { (c : Circuit) → CountsOf c layout → judge (fold_tests c b t room len) ≡ told result }
 {
-    if let Ruling::Refused(n) = limits::check_bounds(layout, b, t, true, room) {
-        return Ruling::Refused(n);
-    }
+    limits::check_bounds(layout, b, t, true, room)?;
     let units = limits::size(layout, t as usize);
     if len < 24 * units + 64 {
-        return Ruling::Refused(13);
+        return Err(Refusal::Output);
     }
-    Ruling::Accepted
+    Ok(())
 }
 
 // Folds frame t of a circuit that is ready.
@@ -181,8 +178,8 @@ pub fn fold(m: &[u32], b: u64, t: u64, work: &mut [u32], out: &mut [u8]) -> Fold
     let Some(layout) = circuit::held_in(m, &mut order) else {
         return FoldAnswer::Refused(9);
     };
-    if let Ruling::Refused(n) = check_fold(layout, b, t, work.len(), out.len()) {
-        return FoldAnswer::Refused(n);
+    if let Err(e) = check_fold(layout, b, t, work.len(), out.len()) {
+        return FoldAnswer::Refused(e.number());
     }
     let length = fold_frame(m, layout, &order, b as usize, t as usize, work, out);
     FoldAnswer::Length(length)

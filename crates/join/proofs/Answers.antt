@@ -24,8 +24,10 @@ use Rattle.load.specs.declared.Counts as load
 use Rattle.load.specs.declared.LoadAnswer.TheVariants.{Loaded}
 use Rattle.load.specs.Answers.{answered, numbers}
 use Rattle.load.specs.Steps.{header_meant}
-use Rattle.limits.specs.declared.Ruling.TheVariants.{Accepted, Refused}
-use Rattle.limits.proofs.Refusals.{not-accepted}
+use Rattle.std.specs.Prelude.Result.{Ok, Err}
+use Rattle.refusals.specs.Refusals.{number_of}
+use Rattle.refusals.specs.declared.Refusal.{Refusal}
+use Rattle.refusals.specs.declared.Refusal.TheVariants as refusal
 use Rattle.joined.specs.Joined.{literal_under, latch_under, gate_under, pairs_gates, first_number, second_number, pairs_from, joined, can_pair}
 use Rattle.joined.specs.Joined.{JoinedInto}
 use Rattle.parting.proofs.Shape.{pairs-length}
@@ -132,29 +134,29 @@ module _ (p q : Layout) (room : ℕ) where
   room-is : {c d : Circuit} → CountsAre c p → CountsAre d q → leb (needed (joined c d).max_var) room ≡ leb (needed (variables p q)) room
   room-is e f = ap (λ (n : ℕ). leb (needed n) room) (top-is-variables e f)
 
-  pub says-17 : pairs ≡ false → RulingIs p q room (Refused 17)
-  says-17 n = record { tests = λ c d e f. fails-17 _ _ (pair-test e f ∙ n); passes = λ z. absurd (not-accepted 17 z) }
+  pub says-17 : pairs ≡ false → RulingIs p q room (Err refusal.Shape)
+  says-17 n = record { tests = λ c d e f. fails-17 _ _ (pair-test e f ∙ n); passes = tt }
 
-  pub says-3 : pairs ≡ true → counts_fit (header_meant (counts_of p q)) ≡ false → RulingIs p q room (Refused 3)
+  pub says-3 : pairs ≡ true → counts_fit (header_meant (counts_of p q)) ≡ false → RulingIs p q room (Err refusal.Counts)
   says-3 t n =
       record {
         tests = λ c d e f. fails-3 _ (pair-test e f ∙ t) (fit_is e f (same-outputs t) ∙ n);
-        passes = λ z. absurd (not-accepted 3 z);
+        passes = tt;
       }
 
   module _ (t : (leb 1 p.o && leb p.o 16 && eqb p.i q.i && eqb p.o q.o) ≡ true) (u : counts_fit (header_meant (counts_of p q)) ≡ true) where
-    pub says-4 : room < needed (variables p q) → RulingIs p q room (Refused 4)
+    pub says-4 : room < needed (variables p q) → RulingIs p q room (Err refusal.CircuitMemory)
     says-4 l =
         record {
           tests = λ c d e f. fails-4 (pair-test e f ∙ t) (fit_is e f (same-outputs t) ∙ u) (room-is e f ∙ lt-leb (needed (variables p q)) room l);
-          passes = λ z. absurd (not-accepted 4 z);
+          passes = tt;
         }
 
-    pub says_none : Small p → Small q → needed (variables p q) ≤ room → RulingIs p q room Accepted
+    pub says_none : Small p → Small q → needed (variables p q) ≤ room → RulingIs p q room (Ok tt)
     says_none s s' l =
         record {
           tests = λ c d e f. fails-none (pair-test e f ∙ t) (fit_is e f (same-outputs t) ∙ u) (room-is e f ∙ le-leb (needed (variables p q)) room l);
-          passes = λ z. (
+          passes = (
             record {
               small = s;
               small' = s';
@@ -174,15 +176,15 @@ module _ (p q : Layout) (room : ℕ) where
 
 module _ {m₁ m₂ m : List ℕ} {p q : Layout} (h : Holds m₁ (circuit_in m₁)) (a : LayoutOf m₁ p) (h' : Holds m₂ (circuit_in m₂))
     (a' : LayoutOf m₂ q) where
-  pub refuses-in : {n : ℕ} → RulingIs p q (length m) (Refused n) → JoinedInto m₁ m₂ m (refused n) m
+  pub refuses-in : {e : Refusal} → RulingIs p q (length m) (Err e) → JoinedInto m₁ m₂ m (refused (number_of e)) m
   refuses-in t =
       JoinedInto.refuses (circuit_in m₁) (circuit_in m₂) h h' (t.tests (circuit_in m₁) (circuit_in m₂) (layout-counts a) (layout-counts a'))
 
-  pub stores-in : RulingIs p q (length m) Accepted → {after : List ℕ} {k : load.Counts}
+  pub stores-in : RulingIs p q (length m) (Ok tt) → {after : List ℕ} {k : load.Counts}
       → after ≡ front (image (joined (circuit_in m₁) (circuit_in m₂))) m → k ≡ counts_of p q → JoinedInto m₁ m₂ m (answered (Loaded k)) after
   stores-in t {after} {k} e f =
       let J = joined (circuit_in m₁) (circuit_in m₂) in
-      let passed = t.passes refl in
+      let passed = t.passes in
       let hd = header_is (layout-counts a) (layout-counts a') passed.0.outputs in
       let row : numbers k ≡ J.max_var ∷ count_row J = ap numbers f ∙ sym (ap (λ (x : Header). x.M ∷ x.I ∷ x.L ∷ x.O ∷ x.A ∷ x.B ∷ x.C ∷ []) hd) in
       subst₂ (λ (x : List ℕ) (y : List ℕ). JoinedInto m₁ m₂ m (gives x) y) (sym row) (sym e)

@@ -1,13 +1,12 @@
 -- The counts of the joined circuit, and what join's tests answer. Assumes nothing.
-use Rattle.std.specs.Prelude.{◌≡◌, ℕ, ◌+◌, ◌*◌, ◌≤◌}
+use Rattle.std.specs.Prelude.{◌≡◌, ℕ, ◌+◌, ◌*◌, ◌≤◌, Result, OnOk}
 use Rattle.aiger.specs.Circuit.{Circuit}
 use Rattle.aiger.specs.Load.{needed}
 use Rattle.aiger.specs.Operations.{judge}
 use Rattle.layout.specs.declared.Layout.{Layout}
 use Rattle.load.specs.declared.Counts.{Counts}
 use Rattle.limits.specs.Limits.{told}
-use Rattle.limits.specs.declared.Ruling.{Ruling}
-use Rattle.limits.specs.declared.Ruling.TheVariants.{Accepted}
+use Rattle.refusals.specs.declared.Refusal.{Refusal}
 use Rattle.joined.specs.Joined.{join_tests}
 use Rattle.pairing.specs.Words.{CountsAre, variables, Joins}
 
@@ -25,6 +24,6 @@ counts_of p q =
     }
 
 -- the first of the tests 17, 3 and 4 that fails, of any circuits with these counts; what holds where all pass
-pub record RulingIs (p q : Layout) (room : ℕ) (r : Ruling) : Type 0 where
+pub record RulingIs (p q : Layout) (room : ℕ) (r : Result (Unit {0}) Refusal) : Type 0 where
   pub tests : (c d : Circuit) → CountsAre c p → CountsAre d q → judge (join_tests c d room) ≡ told r
-  pub passes : r ≡ Accepted → Joins p q × (needed (variables p q) ≤ room)
+  pub passes : OnOk r (Joins p q × (needed (variables p q) ≤ room))

@@ -15,8 +15,8 @@ ghost use Rattle.pairing.specs.Words.{Small, variables, Joins};
 ghost use Rattle.join.specs.Answers.{counts_of, RulingIs};
 
 use layout::Layout;
-use limits::Ruling;
 use load::{Counts, LoadAnswer};
+use refusals::Refusal;
 
 // The counts of the joined circuit.
 fn joined_counts(p: Layout, q: Layout) -> Counts
@@ -62,22 +62,22 @@ fn can_pair(p: Layout, q: Layout) -> bool
     (1 <= p.o) & (p.o <= 16) & (p.i == q.i) & (p.o == q.o)
 }
 
-// The number of the first of the tests 17, 3 and 4 that fails, or that all pass. room is the words of the third memory.
-fn check_join(p: Layout, q: Layout, room: usize) -> Ruling
+// The first of the tests 17, 3 and 4 that fails, or that all pass. room is the words of the third memory.
+fn check_join(p: Layout, q: Layout, room: usize) -> Result<(), Refusal>
     requires { Small p × Small q }
     ensures { RulingIs p q room result }
 {
     if !can_pair(p, q) {
-        return Ruling::Refused(17);
+        return Err(Refusal::Shape);
     }
     let k = joined_counts(p, q);
     if !are_small(k) {
-        return Ruling::Refused(3);
+        return Err(Refusal::Counts);
     }
     if room < 8 * (k.m as usize + 1) + 256 {
-        return Ruling::Refused(4);
+        return Err(Refusal::CircuitMemory);
     }
-    Ruling::Accepted
+    Ok(())
 }
 
 // Joins the circuits in a and b, which can be joined, into m.
@@ -105,8 +105,8 @@ pub fn join(first: &[u32], second: &[u32], third: &mut [u32]) -> LoadAnswer
     let Some(q) = circuit::test(second) else {
         return LoadAnswer::Refused(9);
     };
-    if let Ruling::Refused(n) = check_join(p, q, third.len()) {
-        return LoadAnswer::Refused(n);
+    if let Err(e) = check_join(p, q, third.len()) {
+        return LoadAnswer::Refused(e.number());
     }
     join_held(first, p, second, q, third);
     LoadAnswer::Loaded(joined_counts(p, q))

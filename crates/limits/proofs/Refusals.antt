@@ -13,13 +13,8 @@ use Rattle.aiger.specs.Frames.{size}
 use Rattle.aiger.specs.Operations.{Test, need, judge, size_test, bound_tests}
 use Rattle.aiger.proofs.Tests.{and_left, and_right}
 use Rattle.limits.specs.Limits.{line_tests}
-use Rattle.limits.specs.declared.Ruling.TheVariants.{Accepted, Refused}
 
 -- ---- any tests
-
--- what is refused is not accepted
-pub not-accepted : (n : ℕ) → Refused n ≡ Accepted → ⊥
-not-accepted n e = let z : ◌≡◌ {A = ℕ} 0 1 = cc in omega arith
 
 -- where the first tests refuse, so do all
 pub judge-refused : (xs ys : List Test) (n : ℕ) → judge xs ≡ refused n → judge (xs ++ ys) ≡ refused n

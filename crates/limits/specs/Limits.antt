@@ -1,13 +1,13 @@
 -- Counts within their limits, the size and the length of a witness by the counts, and what the tests 10 to 12 answer. Assumes nothing.
-use Rattle.std.specs.Prelude.{◌≡◌, Bool, ◌&&◌, List, [], ◌∷◌, ℕ, ◌+◌, ◌*◌, ◌≤◌, ◌<◌, T, leb, length}
+use Rattle.std.specs.Prelude.{◌≡◌, Bool, ◌&&◌, List, [], ◌∷◌, ℕ, ◌+◌, ◌*◌, ◌≤◌, ◌<◌, T, leb, length, Result, OnOk}
 use Rattle.aiger.specs.Text.{digits}
 use Rattle.aiger.specs.Circuit.{Circuit}
-use Rattle.aiger.specs.Load.{Answer, refused, gives}
+use Rattle.aiger.specs.Load.{Answer}
 use Rattle.aiger.specs.Frames.{free_starts}
 use Rattle.aiger.specs.Operations.{Test, need, judge, bad_test, size_test, bound_tests}
 use Rattle.layout.specs.declared.Layout.{Layout}
-use Rattle.limits.specs.declared.Ruling.{Ruling}
-use Rattle.limits.specs.declared.Ruling.TheVariants.{Accepted, Refused}
+use Rattle.refusals.specs.Refusals.{answer_of}
+use Rattle.refusals.specs.declared.Refusal.{Refusal}
 
 -- counts within document 01's limits, and no more free starts than latches
 pub record Limited (p : Layout) : Type 0 where
@@ -35,10 +35,9 @@ size_of p k = (k + 1) * (p.i + p.a + p.c + 1) + p.u + 1
 abbrev pub length_of : Layout → ℕ → ℕ → ℕ
 length_of p b k = 3 + length (digits b) + 1 + (p.l + 1) + (k + 1) * (p.i + 1) + 2
 
--- a ruling as the answer of tests
-abbrev pub told : Ruling → Answer (Unit {0})
-told Accepted = gives tt
-told (Refused n) = refused n
+-- what tests say as their answer: that all pass, or the number of the first that fails
+abbrev pub told : Result (Unit {0}) Refusal → Answer (Unit {0})
+told = answer_of
 
 -- the tests 10 and 11
 abbrev pub line_tests : Circuit → ℕ → ℕ → Bool → List Test
@@ -51,9 +50,9 @@ pub record OnLine (p : Layout) (b k : ℕ) (budget : Bool) : Type 0 where
   pub right : T budget
 
 -- the number of the first of them that fails, or that both pass, of any circuit with these counts
-pub record LineIs (p : Layout) (b k : ℕ) (budget : Bool) (r : Ruling) : Type 0 where
+pub record LineIs (p : Layout) (b k : ℕ) (budget : Bool) (r : Result (Unit {0}) Refusal) : Type 0 where
   pub tests : (c : Circuit) → CountsOf c p → judge (line_tests c b k budget) ≡ told r
-  pub within : r ≡ Accepted → OnLine p b k budget
+  pub within : OnOk r (OnLine p b k budget)
 
 -- what test 12 leaves to be used
 pub record InSize (p : Layout) (k room : ℕ) : Type 0 where
@@ -61,9 +60,9 @@ pub record InSize (p : Layout) (k room : ℕ) : Type 0 where
   pub words : 16 * size_of p k ≤ room
 
 -- 12, or that the test passes, of any circuit with these counts
-pub record SizeIs (p : Layout) (k room : ℕ) (r : Ruling) : Type 0 where
+pub record SizeIs (p : Layout) (k room : ℕ) (r : Result (Unit {0}) Refusal) : Type 0 where
   pub tests : (c : Circuit) → CountsOf c p → judge (size_test c k room ∷ []) ≡ told r
-  pub within : r ≡ Accepted → InSize p k room
+  pub within : OnOk r (InSize p k room)
 
 -- what the tests 10 to 12 leave to be used, where all pass
 pub record Within (p : Layout) (b k : ℕ) (budget : Bool) (room : ℕ) : Type 0 where
@@ -74,6 +73,6 @@ pub record Within (p : Layout) (b k : ℕ) (budget : Bool) (room : ℕ) : Type 0
   pub words : 16 * size_of p k ≤ room
 
 -- the number of the first of the tests 10 to 12 that fails, or that all pass, of any circuit with these counts
-pub record RulingIs (p : Layout) (b k : ℕ) (budget : Bool) (room : ℕ) (r : Ruling) : Type 0 where
+pub record RulingIs (p : Layout) (b k : ℕ) (budget : Bool) (room : ℕ) (r : Result (Unit {0}) Refusal) : Type 0 where
   pub tests : (c : Circuit) → CountsOf c p → judge (bound_tests c b k budget room) ≡ told r
-  pub within : r ≡ Accepted → Within p b k budget room
+  pub within : OnOk r (Within p b k budget room)

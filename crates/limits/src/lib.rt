@@ -6,13 +6,7 @@ ghost use Rattle.aiger.specs.Operations.{budget_right};
 ghost use Rattle.limits.specs.Limits.{Limited, size_of, length_of, LineIs, SizeIs, RulingIs};
 
 use layout::Layout;
-
-// What the tests of a request say: all pass, or the number of the first that fails.
-#[derive(Clone, Copy)]
-pub enum Ruling {
-    Accepted,
-    Refused(u32),
-}
+use refusals::Refusal;
 
 // (k+1) × (I+A+C+1) + U + 1.
 pub fn size(layout: Layout, k: usize) -> usize
@@ -38,45 +32,49 @@ pub fn is_budget(d: u64) -> bool
     (1 <= d) & (d <= 4294967296)
 }
 
-// The number of the first of the tests 10 and 11 that fails, or that both pass. budget is whether the budget is right.
-pub fn check_line(layout: Layout, b: u64, k: u64, budget: bool) -> Ruling
+// The first of the tests 10 and 11 that fails, or that both pass. budget is whether the budget is right.
+pub fn check_line(layout: Layout, b: u64, k: u64, budget: bool) -> Result<(), Refusal>
     ensures { LineIs layout b k budget result }
 {
     if layout.b as u64 <= b {
-        return Ruling::Refused(10);
+        return Err(Refusal::BadLine);
     }
     if 255 < k {
-        return Ruling::Refused(11);
+        return Err(Refusal::Bound);
     }
     if !budget {
-        return Ruling::Refused(11);
+        return Err(Refusal::Bound);
     }
-    Ruling::Accepted
+    Ok(())
 }
 
 // Test 12: room is the words of working memory.
-pub fn check_size(layout: Layout, k: usize, room: usize) -> Ruling
+pub fn check_size(layout: Layout, k: usize, room: usize) -> Result<(), Refusal>
     requires { Limited layout × (k ≤ 255) }
     ensures { SizeIs layout k room result }
 {
     let units = size(layout, k);
     if 65536 < units {
-        return Ruling::Refused(12);
+        return Err(Refusal::Size);
     }
     if room < 16 * units {
-        return Ruling::Refused(12);
+        return Err(Refusal::Size);
     }
-    Ruling::Accepted
+    Ok(())
 }
 
-// The number of the first of the tests 10, 11 and 12 that fails, or that all pass. budget is whether the budget is right, and room the
-// words of working memory.
-pub fn check_bounds(layout: Layout, b: u64, k: u64, budget: bool, room: usize) -> Ruling
+// The first of the tests 10, 11 and 12 that fails, or that all pass. budget is whether the budget is right, and room the words of
+// working memory.
+pub fn check_bounds(
+    layout: Layout,
+    b: u64,
+    k: u64,
+    budget: bool,
+    room: usize,
+) -> Result<(), Refusal>
     requires { Limited layout }
     ensures { RulingIs layout b k budget room result }
 {
-    if let Ruling::Refused(n) = check_line(layout, b, k, budget) {
-        return Ruling::Refused(n);
-    }
+    check_line(layout, b, k, budget)?;
     check_size(layout, k as usize, room)
 }

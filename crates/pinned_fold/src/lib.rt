@@ -11,7 +11,6 @@ ghost use Rattle.pinned_fold.specs.Steps.{FoldFits, FoldIs};
 
 use fold::{FoldAnswer, Target};
 use layout::Layout;
-use limits::Ruling;
 
 // Folds under the pins of a user who is known, where all tests pass.
 fn fold_known(
@@ -50,8 +49,8 @@ fn fold_held(
     let Some(layout) = circuit::test(m) else {
         return FoldAnswer::Refused(9);
     };
-    if let Ruling::Refused(n) = fold::check_fold(layout, q.b, q.t, work.len(), out.len()) {
-        return FoldAnswer::Refused(n);
+    if let Err(e) = fold::check_fold(layout, q.b, q.t, work.len(), out.len()) {
+        return FoldAnswer::Refused(e.number());
     }
     fold_known(m, layout, pins, user, q, work, out)
 }

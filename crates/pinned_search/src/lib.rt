@@ -10,7 +10,6 @@ ghost use Rattle.search.specs.Chosen.{chosen, said};
 ghost use Rattle.pinned_search.specs.Steps.{FullFits, InFull, PinnedFits, TextIs, OutputIs};
 
 use layout::Layout;
-use limits::Ruling;
 use search::{SearchAnswer, Terms};
 
 // Searches the pinned circuit. Found leaves its witness, which has the free inputs alone, at the front of text.
@@ -104,8 +103,8 @@ fn search_held(
     let Some(layout) = circuit::test(m) else {
         return SearchAnswer::Refused(9);
     };
-    if let Ruling::Refused(n) = search::check_search(layout, q.b, q.k, q.d, work.len(), out.len()) {
-        return SearchAnswer::Refused(n);
+    if let Err(e) = search::check_search(layout, q.b, q.k, q.d, work.len(), out.len()) {
+        return SearchAnswer::Refused(e.number());
     }
     search_known(m, layout, pins, user, q, work, out)
 }

@@ -10,7 +10,6 @@ ghost use Rattle.search.specs.Chosen.{said};
 ghost use Rattle.pinned_search_from.specs.Steps.{PinnedFromFits, FromTextIs, FromOutputIs};
 
 use layout::Layout;
-use limits::Ruling;
 use place_limits::PlaceTerms;
 use search::SearchAnswer;
 
@@ -70,8 +69,8 @@ fn search_held(
         return SearchAnswer::Refused(9);
     };
     let inputs = expansion::free_inputs(pins, user, layout.i);
-    if let Ruling::Refused(n) = place_limits::check_from(layout, inputs, q, work.len(), out.len()) {
-        return SearchAnswer::Refused(n);
+    if let Err(e) = place_limits::check_from(layout, inputs, q, work.len(), out.len()) {
+        return SearchAnswer::Refused(e.number());
     }
     search_known(m, layout, pins, user, q, work, out)
 }

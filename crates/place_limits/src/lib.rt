@@ -6,7 +6,7 @@ ghost use Rattle.limits.specs.Limits.{Limited};
 ghost use Rattle.place_limits.specs.Tests.{PlaceRuling};
 
 use layout::Layout;
-use limits::Ruling;
+use refusals::Refusal;
 
 // The terms of a search from a place: a bad line, a frame, the starting place, and a budget.
 #[derive(Clone, Copy)]
@@ -17,25 +17,27 @@ pub struct PlaceTerms {
     pub d: u64,
 }
 
-// The number of the first of the tests 10, 11, 19, 12 and 13 that fails, or that all pass. inputs is how many inputs are free, room the
-// words of working memory and len the bytes of output.
-pub fn check_from(layout: Layout, inputs: usize, q: PlaceTerms, room: usize, len: usize) -> Ruling
+// The first of the tests 10, 11, 19, 12 and 13 that fails, or that all pass. inputs is how many inputs are free, room the words of
+// working memory and len the bytes of output.
+pub fn check_from(
+    layout: Layout,
+    inputs: usize,
+    q: PlaceTerms,
+    room: usize,
+    len: usize,
+) -> Result<(), Refusal>
     requires { Limited layout × (inputs ≤ layout.i) }
     ensures { PlaceRuling layout inputs q.b q.t q.place q.d room len result }
 {
     let budget = limits::is_budget(q.d);
-    if let Ruling::Refused(n) = limits::check_line(layout, q.b, q.t, budget) {
-        return Ruling::Refused(n);
-    }
+    limits::check_line(layout, q.b, q.t, budget)?;
     let t = q.t as usize;
     if !place_search::is_place(layout.u + inputs * (t + 1), q.place) {
-        return Ruling::Refused(19);
+        return Err(Refusal::Place);
     }
-    if let Ruling::Refused(n) = limits::check_size(layout, t, room) {
-        return Ruling::Refused(n);
-    }
+    limits::check_size(layout, t, room)?;
     if len < limits::witness_length(layout, q.b as u32, t) {
-        return Ruling::Refused(13);
+        return Err(Refusal::Output);
     }
-    Ruling::Accepted
+    Ok(())
 }

@@ -17,7 +17,7 @@ ghost use Rattle.search.specs.Steps.{SearchFits, FoundShown, SpentTold, Answered
 use attempts::Query;
 use enumeration::Frame;
 use layout::Layout;
-use limits::Ruling;
+use refusals::Refusal;
 use staged::Rounds;
 
 // What a search answers: the first frame with a hit, and the length of the witness; no frame up to the bound has one, and whether it is
@@ -38,20 +38,24 @@ pub struct Terms {
     pub d: u64,
 }
 
-// The number of the first of the tests 10 to 13 that fails, or that all pass. room is the words of working memory and len the bytes of
-// output.
-pub fn check_search(layout: Layout, b: u64, k: u64, d: u64, room: usize, len: usize) -> Ruling
+// The first of the tests 10 to 13 that fails, or that all pass. room is the words of working memory and len the bytes of output.
+pub fn check_search(
+    layout: Layout,
+    b: u64,
+    k: u64,
+    d: u64,
+    room: usize,
+    len: usize,
+) -> Result<(), Refusal>
     requires { Limited layout }
     ensures { (c : Circuit) → CountsOf c layout → judge (search_tests c b k d room len) ≡ told result }
 {
     let budget = limits::is_budget(d);
-    if let Ruling::Refused(n) = limits::check_bounds(layout, b, k, budget, room) {
-        return Ruling::Refused(n);
-    }
+    limits::check_bounds(layout, b, k, budget, room)?;
     if len < limits::witness_length(layout, b as u32, k as usize) {
-        return Ruling::Refused(13);
+        return Err(Refusal::Output);
     }
-    Ruling::Accepted
+    Ok(())
 }
 
 // Writes the witness of the sequence of frame t whose free bits stand in free to the front of out, and answers found.
@@ -148,8 +152,8 @@ pub fn search(m: &[u32], b: u64, k: u64, d: u64, work: &mut [u32], out: &mut [u8
     let Some(layout) = circuit::held_in(m, &mut order) else {
         return SearchAnswer::Refused(9);
     };
-    if let Ruling::Refused(n) = check_search(layout, b, k, d, work.len(), out.len()) {
-        return SearchAnswer::Refused(n);
+    if let Err(e) = check_search(layout, b, k, d, work.len(), out.len()) {
+        return SearchAnswer::Refused(e.number());
     }
     search_frames(m, layout, &order, Terms { b, k, d }, work, out)
 }

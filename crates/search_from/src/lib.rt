@@ -9,7 +9,6 @@ ghost use Rattle.place_decision.specs.Reach.{place_chosen};
 ghost use Rattle.search_from.specs.Steps.{FromFits, AnsweredFrom};
 
 use layout::Layout;
-use limits::Ruling;
 use place_decision::PlaceFrame;
 use place_enumeration::PlaceQuery;
 use place_limits::PlaceTerms;
@@ -48,8 +47,8 @@ pub fn search_from(m: &[u32], q: PlaceTerms, work: &mut [u32], out: &mut [u8]) -
         return SearchAnswer::Refused(9);
     };
     let inputs = layout.i;
-    if let Ruling::Refused(n) = place_limits::check_from(layout, inputs, q, work.len(), out.len()) {
-        return SearchAnswer::Refused(n);
+    if let Err(e) = place_limits::check_from(layout, inputs, q, work.len(), out.len()) {
+        return SearchAnswer::Refused(e.number());
     }
     search_ready(m, layout, &order, q, work, out)
 }
