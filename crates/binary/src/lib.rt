@@ -10,13 +10,6 @@ ghost use Rattle.binary.specs.Sections.{LatchesAt, latches_left, GateAt, GatesAt
 use differences::Difference;
 use lines::{Form, Rows};
 
-// Gates that are read: the position past them.
-#[derive(Clone, Copy)]
-pub enum Gates {
-    Read(usize),
-    Malformed,
-}
-
 // Stores the literals of n variables from variable v on, at word from of out.
 pub fn store_implied(out: &mut [u32], from: usize, v: u32, n: usize)
     requires n_in_bounds { from + n ≤ length out.old }
@@ -44,7 +37,7 @@ pub fn read_latches(
     limit: u32,
     out: &mut [u32],
     from: usize,
-) -> Rows
+) -> Option<Rows>
     requires at_in_bounds { at ≤ length s.now }
     requires n_in_bounds { from + n * 3 ≤ length out.old }
     requires n_bound { v + n ≤ 10000 }
@@ -55,60 +48,61 @@ pub fn read_latches(
     let mut fits = true;
     let mut var = v;
     let mut to = from;
-    let mut left = n;
-    while 0 < left {
+    for _ in 0..n {
         out[to] = 2 * var;
         let form = Form {
             least: 1,
             most: 2,
             limit,
         };
-        match lines::read_line(s, next, form, out, to + 1) {
-            Rows::Read(after, ok) => {
-                next = after;
-                fits = fits & ok;
-                var += 1;
-                to += 3;
-                left -= 1;
-            }
-            Rows::Malformed => {
-                return Rows::Malformed;
-            }
-        }
+        let line = lines::read_line(s, next, form, out, to + 1)?;
+        next = line.next;
+        fits = fits & line.fits;
+        var += 1;
+        to += 3;
     }
-    Rows::Read(next, fits)
+    Some(Rows { next, fits })
 }
 
-// Reads the gate with literal lit, and stores it as three words at word to of out. Of a malformed gate nothing is stored.
-fn read_gate(s: &[u8], at: usize, lit: u32, out: &mut [u32], to: usize) -> Gates
+// Reads the gate with literal lit, stores it as three words at word to of out, and gives the position past it. Of a malformed gate nothing is stored.
+fn read_gate(s: &[u8], at: usize, lit: u32, out: &mut [u32], to: usize) -> Option<usize>
     requires { to + 3 ≤ length out.old }
     ensures { GateAt s.now at lit out.old to out.new result }
 {
-    let Difference::Read(first, middle) = differences::read_difference(s, at) else {
-        return Gates::Malformed;
-    };
+    let Difference {
+        value: first,
+        next: middle,
+    } = differences::read_difference(s, at)?;
     if first < 1 {
-        return Gates::Malformed;
+        return None;
     }
     if lit < first {
-        return Gates::Malformed;
+        return None;
     }
     let left = lit - first;
-    let Difference::Read(second, next) = differences::read_difference(s, middle) else {
-        return Gates::Malformed;
-    };
+    let Difference {
+        value: second,
+        next,
+    } = differences::read_difference(s, middle)?;
     if left < second {
-        return Gates::Malformed;
+        return None;
     }
     out[to] = lit;
     out[to + 1] = left;
     out[to + 2] = left - second;
-    Gates::Read(next)
+    Some(next)
 }
 
-// Reads n gates, of the variables from v on, and stores each as three words from word from of out on. Those before a malformed gate are
-// stored.
-pub fn read_gates(s: &[u8], at: usize, n: usize, v: u32, out: &mut [u32], from: usize) -> Gates
+// Reads n gates, of the variables from v on, and stores each as three words from word from of out on. The answer is the
+// position past them. Those before a malformed gate are stored.
+pub fn read_gates(
+    s: &[u8],
+    at: usize,
+    n: usize,
+    v: u32,
+    out: &mut [u32],
+    from: usize,
+) -> Option<usize>
     requires at_in_bounds { at ≤ length s.now }
     requires n_in_bounds { from + n * 3 ≤ length out.old }
     requires n_bound { v + n ≤ 10000 }
@@ -118,19 +112,10 @@ pub fn read_gates(s: &[u8], at: usize, n: usize, v: u32, out: &mut [u32], from: 
     let mut next = at;
     let mut var = v;
     let mut to = from;
-    let mut left = n;
-    while 0 < left {
-        match read_gate(s, next, 2 * var, out, to) {
-            Gates::Read(after) => {
-                next = after;
-                var += 1;
-                to += 3;
-                left -= 1;
-            }
-            Gates::Malformed => {
-                return Gates::Malformed;
-            }
-        }
+    for _ in 0..n {
+        next = read_gate(s, next, 2 * var, out, to)?;
+        var += 1;
+        to += 3;
     }
-    Gates::Read(next)
+    Some(next)
 }

@@ -1,19 +1,18 @@
 -- What the loop of `read_difference` keeps: the number is a total, and a scale times the number that is left. Assumes nothing.
 use mathlib.Core.Path.{◌≡◌, refl, sym, ap, ◌∙◌}
-use mathlib.Core.List.{List, [], ◌∷◌}
+use mathlib.Core.List.{List}
 use mathlib.Core.Option.{Option, none, some}
-use Prim.Native.Nat.{ℕ, zero, suc, ◌+◌, ◌-◌, ◌*◌, ◌^◌, ◌≤◌, ◌<◌}
+use Prim.Native.Nat.{ℕ, suc, ◌+◌, ◌-◌, ◌*◌, ◌^◌, ◌≤◌, ◌<◌}
 use native.Mathlib.Nat.{mul_comm, mul-add, mul_assoc, mul-le-mul_right, pow-suc, pow-le-pow_right}
 use native.Mathlib.Numerals.{add-one}
 use native.Mathlib.Omega.{arith}
 use borrow.Author.Tests.{lt-ltb, le-ltb}
-use lib.Dec.{ltb}
 use lib.ListN.{length, get_or, drop, drop_of_length-le}
 use lib.Seq.{drop-cons}
 use Rattle.aiger.specs.Text.{◌>>=◌}
 use Rattle.aiger.specs.Binary.{groups, difference}
 use Rattle.differences.specs.Groups.{DifferenceAt}
-use Rattle.differences.specs.declared.Difference.TheVariants.{Read, Malformed}
+use Rattle.std.specs.Prelude.{Some, None}
 
 -- t and s times a number
 abbrev onto : ℕ → ℕ → Option (ℕ × List ℕ) → Option (ℕ × List ℕ)
@@ -71,7 +70,7 @@ module _ {s : List ℕ} {at total scale left i : ℕ} (g : Reading s at total sc
   product b h = mul-le-mul_right scale h
 
   -- the text ends
-  pub cut_short : 0 < left → length s ≤ i → DifferenceAt s at Malformed
+  pub cut_short : 0 < left → length s ≤ i → DifferenceAt s at None
   unfolding difference groups
   cut_short h l =
       let k : left ≡ suc (left - 1) = omega arith in
@@ -84,13 +83,13 @@ module _ {s : List ℕ} {at total scale left i : ℕ} (g : Reading s at total sc
         let k : left ≡ suc (left - 1) = omega arith in
         g.same ∙ ap (λ (n : ℕ). onto total scale (groups n (drop i s))) k ∙ ap (onto total scale) (group-last s (left - 1) i h l)
 
-    pub read-it : get_or s i 0 < 128 → (v : ℕ) → v ≡ total + get_or s i 0 * scale → v < 2 ^ 32 → DifferenceAt s at (Read v (i + 1))
+    pub read-it : get_or s i 0 < 128 → (v : ℕ) → v ≡ total + get_or s i 0 * scale → v < 2 ^ 32 → DifferenceAt s at (Some (record { value = v; next = i + 1 }))
     unfolding difference
     read-it l v e small =
         let f : total + scale * get_or s i 0 ≡ v = omega (arith, mul_comm scale (get_or s i 0)) in
         record { meaning = sym (rw (last l, f, lt-ltb v (2 ^ 32) small)); place = (omega (arith, g.here, g.few), omega arith) }
 
-    pub too_large : get_or s i 0 < 128 → 2 ^ 32 ≤ total + get_or s i 0 * scale → DifferenceAt s at Malformed
+    pub too_large : get_or s i 0 < 128 → 2 ^ 32 ≤ total + get_or s i 0 * scale → DifferenceAt s at None
     unfolding difference
     too_large l large =
         let v : ℕ = total + scale * get_or s i 0 in
@@ -118,7 +117,7 @@ module _ {s : List ℕ} {at total scale left i : ℕ} (g : Reading s at total sc
         }
 
   -- no group is left
-  pub too_many : left ≤ 0 → DifferenceAt s at Malformed
+  pub too_many : left ≤ 0 → DifferenceAt s at None
   unfolding difference groups
   too_many h =
       let k : left ≡ 0 = omega arith in

@@ -5,45 +5,38 @@ ghost use Rattle.std.specs.Prelude.{◌≡◌, ◌+◌, ◌≤◌, length};
 ghost use Rattle.aiger.specs.Binary.{difference_text};
 ghost use Rattle.differences.specs.Groups.{DifferenceAt, Placed-in};
 
-// What stands at a position of a text: the number and the position past it; or none, or one that is too large.
+// A difference that stands at a position of a text: the number, and the position past it.
 #[derive(Clone, Copy)]
-pub enum Difference {
-    Read(u32, usize),
-    Malformed,
+pub struct Difference {
+    pub value: u32,
+    pub next: usize,
 }
 
-fn wide(x: u8) -> u64
-    ensures { result ≡ x }
-{
-    x as u64
-}
-
-// Reads the difference at a position.
-pub fn read_difference(s: &[u8], at: usize) -> Difference
+// Reads the difference at a position: None where none stands there, or one that is too large.
+pub fn read_difference(s: &[u8], at: usize) -> Option<Difference>
     ensures { DifferenceAt s.now at result }
 {
     let mut total: u64 = 0;
     let mut scale: u64 = 1;
-    let mut left: usize = 5;
     let mut i = at;
-    while 0 < left {
+    for _ in 0..5_u32 {
         if s.len() <= i {
-            return Difference::Malformed;
+            return None;
         }
-        let b = wide(s[i]);
+        let b = u64::from(s[i]);
         i += 1;
         if b < 128 {
             total += b * scale;
             if total > 0xffff_ffff {
-                return Difference::Malformed;
+                return None;
             }
-            return Difference::Read(total as u32, i);
+            let value = total as u32;
+            return Some(Difference { value, next: i });
         }
         total += (b - 128) * scale;
         scale *= 128;
-        left -= 1;
     }
-    Difference::Malformed
+    None
 }
 
 // How many groups a difference is written with.

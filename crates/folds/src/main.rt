@@ -34,10 +34,10 @@ fn say_loaded(
 }
 
 fn say_input(rt: HostRuntime, input: &[u8], m: &mut [u32], work: &mut [u32], out: &mut [u8]) {
-    let Number::Spaced(b, second) = numbers::read_number(input, 5) else {
+    let Some(Number::Spaced(b, second)) = numbers::read_number(input, 5) else {
         return;
     };
-    let Number::Ended(t, at) = numbers::read_number(input, second) else {
+    let Some(Number::Ended(t, at)) = numbers::read_number(input, second) else {
         return;
     };
     if input.len() < at {

@@ -18,7 +18,7 @@ use Rattle.lines.proofs.Tests.{and-true, and-false, and_assoc}
 use Rattle.lines.specs.Lines.{RowRead}
 use Rattle.headers.specs.Header.{counts_of, counts_meant, HeaderAt, named, limits_hold}
 use Rattle.headers.specs.declared.Counts.{Counts}
-use Rattle.headers.specs.declared.Header.TheVariants.{Read, Malformed}
+use Rattle.std.specs.Prelude.{Some, None}
 
 -- the name
 
@@ -79,23 +79,23 @@ all_small l k b z j = go (dec_lt j k)
 
 -- the answers
 
-pub not_named : (s : List ℕ) → named-either s ≡ false → HeaderAt s Malformed
+pub not_named : (s : List ℕ) → named-either s ≡ false → HeaderAt s None
 unfolding header
 not_named s e = record { meaning = rw e; place = tt }
 
 module _ (s : List ℕ) (named : named-either s ≡ true) where
-  pub no_row : row 9 (drop 4 s) ≡ none → HeaderAt s Malformed
+  pub no_row : row 9 (drop 4 s) ≡ none → HeaderAt s None
   unfolding header
   no_row e = record { meaning = rw (named, e); place = tt }
 
   module _ (zeros list : List ℕ) (count next : ℕ) (room : 9 ≤ length list) (r : RowRead s 4 9 zeros list count next) where
-    pub few : count < 5 → HeaderAt s Malformed
+    pub few : count < 5 → HeaderAt s None
     unfolding header
     few h =
         let l : length (take count list) < 5 = omega (arith, length-take-le count list (omega arith)) in
         record { meaning = rw (named, r.meaning, lt-leb 5 (length (take count list)) l); place = tt }
 
-    pub enough : ((i : ℕ) → get_or zeros i 0 ≡ 0) → 5 ≤ count → HeaderAt s (Read (counts_of list) next)
+    pub enough : ((i : ℕ) → get_or zeros i 0 ≡ 0) → 5 ≤ count → HeaderAt s (Some (record { counts = counts_of list; next = next }))
     unfolding header
     enough z h =
         let l : 5 ≤ length (take count list) = omega (arith, length-take-le count list (omega arith)) in

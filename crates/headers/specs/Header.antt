@@ -1,11 +1,11 @@
 -- What reading a header answers, and the limits of its numbers. Assumes nothing.
+use Rattle.std.specs.Prelude as std
 use Rattle.std.specs.Prelude.{◌≡◌, Bool, ◌&&◌, List, [], ◌∷◌, ℕ, ◌^◌, ◌≤◌, ◌<◌, leb, eqb, length, get_or, take, drop}
 use Rattle.std.proofs.Math.Option.{Option, none, some}
 use Rattle.aiger.specs.Lists.{same}
 use Rattle.aiger.specs.File as file
 use Rattle.headers.specs.declared.Counts.{Counts}
 use Rattle.headers.specs.declared.Header.{Header}
-use Rattle.headers.specs.declared.Header.TheVariants.{Read, Malformed}
 
 -- the numbers of a list: one that is missing is 0
 abbrev pub counts_of : List ℕ → Counts
@@ -27,9 +27,9 @@ counts_meant c =
     record { M = c.m; I = c.i; L = c.l; O = c.o; A = c.a; B = c.b; C = c.c; J = c.j; F = c.f }
 
 -- an answer on a text
-abbrev pub meant_header : List ℕ → Header → Option (file.Header × List ℕ)
-meant_header s (Read c next) = some (counts_meant c, drop next s)
-meant_header s Malformed = none
+abbrev pub meant_header : List ℕ → std.Option Header → Option (file.Header × List ℕ)
+meant_header s (std.Some h) = some (counts_meant h.counts, drop h.next s)
+meant_header s std.None = none
 
 pub record Small (h : Counts) : Type 0 where
   pub m : h.m < 10 ^ 10
@@ -43,12 +43,12 @@ pub record Small (h : Counts) : Type 0 where
   pub f : h.f < 10 ^ 10
 
 -- the position past a header, and how large its numbers are
-abbrev pub Placed : List ℕ → Header → Type 0
-Placed s (Read c next) = (next ≤ length s) × Small c
-Placed s Malformed = Unit {0}
+abbrev pub Placed : List ℕ → std.Option Header → Type 0
+Placed s (std.Some h) = (h.next ≤ length s) × Small h.counts
+Placed s std.None = Unit {0}
 
 -- r is the header that s begins with
-pub record HeaderAt (s : List ℕ) (r : Header) : Type 0 where
+pub record HeaderAt (s : List ℕ) (r : std.Option Header) : Type 0 where
   pub meaning : meant_header s r ≡ file.header s
   pub place : Placed s r
 

@@ -24,9 +24,9 @@ pub struct Counts {
 
 // A header: its numbers, and the position past it.
 #[derive(Clone, Copy)]
-pub enum Header {
-    Read(Counts, usize),
-    Malformed,
+pub struct Header {
+    pub counts: Counts,
+    pub next: usize,
 }
 
 // Whether s begins with the first word of a header that has this second letter.
@@ -63,26 +63,21 @@ fn counts_of(list: &[u64; 9]) -> Counts
 }
 
 // Reads the header line: `aag` or `aig` and five to nine numbers, missing ones as 0.
-pub fn read_header(s: &[u8]) -> Header
+pub fn read_header(s: &[u8]) -> Option<Header>
     ensures { HeaderAt s.now result }
 {
     let text = is_named(s, b'a');
     let binary = is_binary(s);
-    if text | binary {
-        let mut list = [0u64; 9];
-        match read_row(s, 4, 9, &mut list) {
-            Row::Read(count, next) => {
-                if count < 5 {
-                    return Header::Malformed;
-                }
-                return Header::Read(counts_of(&list), next);
-            }
-            Row::Malformed => {
-                return Header::Malformed;
-            }
-        }
+    if !(text | binary) {
+        return None;
     }
-    Header::Malformed
+    let mut list = [0u64; 9];
+    let Row { count, next } = read_row(s, 4, 9, &mut list)?;
+    if count < 5 {
+        return None;
+    }
+    let counts = counts_of(&list);
+    Some(Header { counts, next })
 }
 
 // Whether each number is within its own limit.

@@ -63,7 +63,7 @@ fn read_request(input: &[u8]) -> FirstLine
         return FirstLine::Malformed;
     }
     let mut list = [0u64; 3];
-    let Row::Read(count, next) = lines::read_row(input, 7, 3, &mut list) else {
+    let Some(Row { count, next }) = lines::read_row(input, 7, 3, &mut list) else {
         return FirstLine::Malformed;
     };
     if count < 3 {

@@ -1,6 +1,6 @@
 -- Laws of reading a line, a number at a time. Assumes nothing.
 use mathlib.Core.Path.{◌≡◌, refl, sym, ◌∙◌}
-use mathlib.Core.Logic.{◌⊎◌, ◌≢◌, ⊎_elim}
+use mathlib.Core.Logic.{◌≢◌, ⊎_elim}
 use mathlib.Core.List.{List, [], ◌∷◌, ◌++◌, append_assoc}
 use mathlib.Core.Option.{Option, none, some}
 use Prim.Native.Nat.{ℕ, suc, ◌+◌, ◌-◌, ◌^◌, ◌≤◌, ◌<◌}
@@ -11,7 +11,8 @@ use lib.ListN.{length, get_or, take, drop, set, length-set}
 use lib.Seq.{sets, take-suc-set, get_or-set_same, get_or-set_other}
 use Rattle.aiger.specs.Text.{spaced, ended, malformed, token, row, ◌>>=◌}
 use Rattle.numbers.specs.Number.{NumberAt}
-use Rattle.numbers.specs.declared.Number.TheVariants.{Spaced, Ended, Malformed}
+use Rattle.std.specs.Prelude.{Some, None}
+use Rattle.numbers.specs.declared.Number.TheVariants.{Spaced, Ended}
 use Rattle.lines.specs.Lines.{RowRead, begun}
 
 -- a line whose first numbers are vs
@@ -116,7 +117,7 @@ start s at most buf room =
     }
 
 module _ (s : List ℕ) (at most : ℕ) (before buf : List ℕ) (count next : ℕ) (l : Reading s at most before buf count next) where
-  pub more : (v after : ℕ) → count < most → NumberAt s next (Spaced v after) → Reading s at most before (set buf count v) (count + 1) after
+  pub more : (v after : ℕ) → count < most → NumberAt s next (Some (Spaced v after)) → Reading s at most before (set buf count v) (count + 1) after
   more v after h n =
       let room : count < length buf = omega arith in
       record {
@@ -131,7 +132,7 @@ module _ (s : List ℕ) (at most : ℕ) (before buf : List ℕ) (count next : �
         whole = l.whole ∙ left-spaced buf (drop next s) (drop after s) most count v h (sym n.meaning);
       }
 
-  pub last : (v after : ℕ) → count < most → NumberAt s next (Ended v after) → RowRead s at most before (set buf count v) (count + 1) after
+  pub last : (v after : ℕ) → count < most → NumberAt s next (Some (Ended v after)) → RowRead s at most before (set buf count v) (count + 1) after
   last v after h n =
       let room : count < length buf = omega arith in
       record {
@@ -145,16 +146,16 @@ module _ (s : List ℕ) (at most : ℕ) (before buf : List ℕ) (count next : �
         rest = rest-set before buf count v l.rest;
       }
 
-  pub last-left : (v after : ℕ) → count < most → NumberAt s next (Ended v after) → set buf count v ≡ sets before 0 (begun most (drop at s))
+  pub last-left : (v after : ℕ) → count < most → NumberAt s next (Some (Ended v after)) → set buf count v ≡ sets before 0 (begun most (drop at s))
   last-left v after h n = sym (l.whole ∙ left_ended buf (drop next s) (drop after s) most count v h (sym n.meaning))
 
-  pub bad : count < most → NumberAt s next Malformed → row most (drop at s) ≡ none
+  pub bad : count < most → NumberAt s next None → row most (drop at s) ≡ none
   bad h n = l.meaning ∙ row-malformed (take count buf) (drop next s) most count h (sym n.meaning)
 
   pub long : most ≤ count → row most (drop at s) ≡ none
   long h = l.meaning ∙ row-long (take count buf) (drop next s) most count h
 
-  pub bad-left : count < most → NumberAt s next Malformed → buf ≡ sets before 0 (begun most (drop at s))
+  pub bad-left : count < most → NumberAt s next None → buf ≡ sets before 0 (begun most (drop at s))
   bad-left h n = sym (l.whole ∙ left-malformed buf (drop next s) most count h (sym n.meaning))
 
   pub long-left : most ≤ count → buf ≡ sets before 0 (begun most (drop at s))

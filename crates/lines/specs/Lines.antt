@@ -1,13 +1,12 @@
 -- What reading a line of numbers, and a run of lines, answers and stores. Assumes nothing.
+use Rattle.std.specs.Prelude as std
 use Rattle.std.specs.Prelude.{◌≡◌, Bool, true, cond, List, [], ◌∷◌, ◌++◌, map, ℕ, zero, suc, ◌+◌, ◌*◌, ◌^◌, ◌≤◌, ◌<◌, leb, length, get_or, take, drop}
 use Rattle.std.proofs.Math.Option.{Option, none, some}
 use Rattle.std.proofs.lemmas.List.Edits.{sets}
 use Rattle.aiger.specs.Lists.{every}
 use Rattle.aiger.specs.Text.{Token, spaced, ended, malformed, token, row, rows}
 use Rattle.lines.specs.declared.Row.{Row}
-use Rattle.lines.specs.declared.Row.TheVariants as row-variants
 use Rattle.lines.specs.declared.Rows.{Rows}
-use Rattle.lines.specs.declared.Rows.TheVariants as rows-variants
 
 -- a line of count numbers from `at` to `next`; the buffer was `before`, and is `after`: the numbers, then what it had there
 pub record RowRead (s : List ℕ) (at most : ℕ) (before after : List ℕ) (count next : ℕ) : Type 0 where
@@ -19,9 +18,9 @@ pub record RowRead (s : List ℕ) (at most : ℕ) (before after : List ℕ) (cou
   pub rest : (i : ℕ) → count ≤ i → get_or after i 0 ≡ get_or before i 0
 
 -- r is the line that stands at `at` in s
-abbrev pub RowAt : List ℕ → ℕ → ℕ → List ℕ → List ℕ → Row → Type 0
-RowAt s at most before after (row-variants.Read count next) = RowRead s at most before after count next
-RowAt s at most before after row-variants.Malformed = row most (drop at s) ≡ none
+abbrev pub RowAt : List ℕ → ℕ → ℕ → List ℕ → List ℕ → std.Option Row → Type 0
+RowAt s at most before after (std.Some r) = RowRead s at most before after r.count r.next
+RowAt s at most before after std.None = row most (drop at s) ≡ none
 
 -- the number that a token is, and what its line has after it
 abbrev pub number_then : Token → (List ℕ → List ℕ) → List ℕ
@@ -73,9 +72,9 @@ abbrev pub NoLine : ℕ → Option (List ℕ × List ℕ) → Type 0
 NoLine least none = Unit {0}
 NoLine least (some r) = length r.0 < least
 
-abbrev pub LineAt : List ℕ → ℕ → ℕ → ℕ → ℕ → List ℕ → ℕ → List ℕ → Rows → Type 0
-LineAt s at least most limit before from after (rows-variants.Read next fits) = LineRead s at least most limit before from after next fits
-LineAt s at least most limit before from after rows-variants.Malformed = NoLine least (row most (drop at s)) × (after ≡ before)
+abbrev pub LineAt : List ℕ → ℕ → ℕ → ℕ → ℕ → List ℕ → ℕ → List ℕ → std.Option Rows → Type 0
+LineAt s at least most limit before from after (std.Some r) = LineRead s at least most limit before from after r.next r.fits
+LineAt s at least most limit before from after std.None = NoLine least (row most (drop at s)) × (after ≡ before)
 
 -- what follows from a line of at least `least` numbers and the text after it, and nothing where there is none
 abbrev pub on_line : ℕ → Option (List ℕ × List ℕ) → (List ℕ → List ℕ → List ℕ) → List ℕ
@@ -98,7 +97,7 @@ pub record RowsRead (s : List ℕ) (at least most n limit : ℕ) (before : List 
   pub tested : fits ≡ every (within limit) lines
   pub contents : fits ≡ true → after ≡ take from before ++ flat most lines ++ drop (from + n * most) before
 
-abbrev pub RowsAt : List ℕ → ℕ → ℕ → ℕ → ℕ → ℕ → List ℕ → ℕ → List ℕ → Rows → Type 0
-RowsAt s at least most n limit before from after (rows-variants.Read next fits) =
-    RowsRead s at least most n limit before from after next fits
-RowsAt s at least most n limit before from after rows-variants.Malformed = rows least most n (drop at s) ≡ none
+abbrev pub RowsAt : List ℕ → ℕ → ℕ → ℕ → ℕ → ℕ → List ℕ → ℕ → List ℕ → std.Option Rows → Type 0
+RowsAt s at least most n limit before from after (std.Some r) =
+    RowsRead s at least most n limit before from after r.next r.fits
+RowsAt s at least most n limit before from after std.None = rows least most n (drop at s) ≡ none

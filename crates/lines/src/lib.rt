@@ -10,16 +10,16 @@ use numbers::Number;
 
 // A line of numbers: how many there are, and the position past it.
 #[derive(Clone, Copy)]
-pub enum Row {
-    Read(usize, usize),
-    Malformed,
+pub struct Row {
+    pub count: usize,
+    pub next: usize,
 }
 
 // A run of lines: the position past it, and whether every number is within the limit.
 #[derive(Clone, Copy)]
-pub enum Rows {
-    Read(usize, bool),
-    Malformed,
+pub struct Rows {
+    pub next: usize,
+    pub fits: bool,
 }
 
 // The form of a line: how many numbers it has at least and at most, and the limit of each.
@@ -30,38 +30,36 @@ pub struct Form {
     pub limit: u32,
 }
 
-// Reads a line of 1 to most numbers into the front of buf. Of a malformed line, the numbers before the malformed place are left there.
-pub fn read_row(s: &[u8], at: usize, most: usize, buf: &mut [u64]) -> Row
+// Reads a line of 1 to most numbers into the front of buf: None where the line is malformed. Of a malformed line, the numbers before the malformed place are left there.
+pub fn read_row(s: &[u8], at: usize, most: usize, buf: &mut [u64]) -> Option<Row>
     requires { most ≤ length buf.old }
     ensures { RowAt s.now at most buf.old buf.new result
         × (buf.new ≡ sets buf.old 0 (begun most (drop at s.now))) }
 {
-    let mut count: usize = 0;
     let mut next = at;
-    while count < most {
-        match numbers::read_number(s, next) {
+    for count in 0..most {
+        match numbers::read_number(s, next)? {
             Number::Spaced(v, after) => {
                 buf[count] = v;
-                count += 1;
                 next = after;
             }
             Number::Ended(v, after) => {
                 buf[count] = v;
-                return Row::Read(count + 1, after);
-            }
-            Number::Malformed => {
-                return Row::Malformed;
+                return Some(Row {
+                    count: count + 1,
+                    next: after,
+                });
             }
         }
     }
-    Row::Malformed
+    None
 }
 
 // v, or 0 where it is above the limit.
 fn narrow(v: u64, limit: u32) -> u32
     ensures { result ≡ narrowed limit v }
 {
-    if v <= limit as u64 {
+    if v <= u64::from(limit) {
         return v as u32;
     }
     0
@@ -73,41 +71,42 @@ fn store_words(words: &[u64], most: usize, limit: u32, out: &mut [u32], from: us
     requires most_in_bounds_2 { from + most ≤ length out.old }
     ensures { Stored words.now most limit out.old from out.new result }
 {
-    let wide = limit as u64;
+    let wide = u64::from(limit);
     let mut fits = true;
-    let mut k: usize = 0;
-    while k < most {
+    for k in 0..most {
         let v = words[k];
         fits = fits & (v <= wide);
         out[from + k] = narrow(v, limit);
-        k += 1;
     }
     fits
 }
 
 // Reads a line of a form, and stores it as the form's most words, missing numbers and those above the limit as 0. Of a malformed line
 // nothing is stored.
-pub fn read_line(s: &[u8], at: usize, form: Form, out: &mut [u32], from: usize) -> Rows
+pub fn read_line(s: &[u8], at: usize, form: Form, out: &mut [u32], from: usize) -> Option<Rows>
     requires most_bound { form.most ≤ 3 }
     requires most_in_bounds { from + form.most ≤ length out.old }
     ensures { LineAt s.now at form.least form.most form.limit out.old from out.new result }
 {
     let mut words = [0u64; 3];
-    match read_row(s, at, form.most, &mut words) {
-        Row::Read(count, next) => {
-            if count < form.least {
-                return Rows::Malformed;
-            }
-            let fits = store_words(&words, form.most, form.limit, out, from);
-            Rows::Read(next, fits)
-        }
-        Row::Malformed => Rows::Malformed,
+    let Row { count, next } = read_row(s, at, form.most, &mut words)?;
+    if count < form.least {
+        return None;
     }
+    let fits = store_words(&words, form.most, form.limit, out, from);
+    Some(Rows { next, fits })
 }
 
 // Reads n lines of a form, and stores each as the form's most words from word from of out on, numbers above the limit as 0. Those before a
 // malformed line are stored.
-pub fn read_rows(s: &[u8], at: usize, n: usize, form: Form, out: &mut [u32], from: usize) -> Rows
+pub fn read_rows(
+    s: &[u8],
+    at: usize,
+    n: usize,
+    form: Form,
+    out: &mut [u32],
+    from: usize,
+) -> Option<Rows>
     requires at_in_bounds { at ≤ length s.now }
     requires most_bound { form.most ≤ 3 }
     requires most_in_bounds { from + n * form.most ≤ length out.old }
@@ -118,21 +117,13 @@ pub fn read_rows(s: &[u8], at: usize, n: usize, form: Form, out: &mut [u32], fro
     let mut next = at;
     let mut fits = true;
     let mut to = from;
-    let mut left = n;
-    while 0 < left {
-        match read_line(s, next, form, out, to) {
-            Rows::Read(after, ok) => {
-                next = after;
-                fits = fits & ok;
-                to += form.most;
-                left -= 1;
-            }
-            Rows::Malformed => {
-                return Rows::Malformed;
-            }
-        }
+    for _ in 0..n {
+        let line = read_line(s, next, form, out, to)?;
+        next = line.next;
+        fits = fits & line.fits;
+        to += form.most;
     }
-    Rows::Read(next, fits)
+    Some(Rows { next, fits })
 }
 
 // Whether the text ends at a position, or a line `c` stands there.

@@ -14,7 +14,6 @@ ghost use Rattle.load.specs.Answers.{answered, numbers};
 ghost use Rattle.load.specs.Preview.{Previewed, JudgedAs, Judges};
 ghost use Rattle.load.specs.Steps.{narrowed, header_meant, CircuitJudged, load_body};
 
-use headers::Header;
 use sections::Body;
 
 // The numbers that an accepted load returns: the largest variable, and how many inputs, latches, outputs, gates, bad lines and
@@ -170,9 +169,10 @@ fn judge_file(file: &[u8], room: usize, words: &mut [u32], order: &mut [u32]) ->
     if 65536 < file.len() {
         return refused(1);
     }
-    let Header::Read(h, at) = headers::read_header(file) else {
+    let Some(header) = headers::read_header(file) else {
         return refused(2);
     };
+    let h = header.counts;
     let binary = headers::is_binary(file);
     if !headers::counts_right(h, binary) {
         return refused(3);
@@ -184,7 +184,7 @@ fn judge_file(file: &[u8], room: usize, words: &mut [u32], order: &mut [u32]) ->
             needed,
         };
     }
-    let answer = judge_sections(file, at, binary, narrow(h), words, order);
+    let answer = judge_sections(file, header.next, binary, narrow(h), words, order);
     Judgement { answer, needed }
 }
 

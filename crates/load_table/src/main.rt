@@ -68,7 +68,7 @@ fn at_most(words: u64, m: &[u32]) -> usize
 }
 
 fn say_row(rt: HostRuntime, row: &[u8], m: &mut [u32], file: &mut [u8], out: &mut [u8]) {
-    let Number::Spaced(words, at) = numbers::read_number(row, 0) else {
+    let Some(Number::Spaced(words, at)) = numbers::read_number(row, 0) else {
         return;
     };
     if row.len() < at {

@@ -15,7 +15,8 @@ use Rattle.aiger.specs.Lists.{every}
 use Rattle.aiger.specs.Text.{is_digit, is_number, decimal, span, Token, malformed, ended_by, token}
 use Rattle.aiger.proofs.Tests.{and, every-left, T_true}
 use Rattle.numbers.specs.Number.{NumberAt, Digits, part}
-use Rattle.numbers.specs.declared.Number.TheVariants.{Spaced, Ended, Malformed}
+use Rattle.std.specs.Prelude.{Some, None}
+use Rattle.numbers.specs.declared.Number.TheVariants.{Spaced, Ended}
 use Rattle.numbers.proofs.Run.{overlong, small-more, small-in}
 
 digit : (b : ℕ) → 48 ≤ b → b < 58 → is_digit b ≡ true
@@ -121,7 +122,7 @@ module _ {s : List ℕ} {at total count i : ℕ} (g : Gathering s at total count
       let b : (span (drop at s)).1 ≡ f = g.rest ∙ rw e in
       rw (a, b)
 
-  pub by-space : i < length s → get_or s i 0 ≡ 32 → is_number (part s at count) ≡ true → NumberAt s at (Spaced total (i + 1))
+  pub by-space : i < length s → get_or s i 0 ≡ 32 → is_number (part s at count) ≡ true → NumberAt s at (Some (Spaced total (i + 1)))
   unfolding ended_by
   by-space p b n =
       record {
@@ -129,7 +130,7 @@ module _ {s : List ℕ} {at total count i : ℕ} (g : Gathering s at total count
         place = record { past = omega arith; inside = omega arith; small = small-in count 10 total g.few g.small };
       }
 
-  pub by-line : i < length s → get_or s i 0 ≡ 10 → is_number (part s at count) ≡ true → NumberAt s at (Ended total (i + 1))
+  pub by-line : i < length s → get_or s i 0 ≡ 10 → is_number (part s at count) ≡ true → NumberAt s at (Some (Ended total (i + 1)))
   unfolding ended_by
   by-line p b n =
       record {
@@ -138,22 +139,22 @@ module _ {s : List ℕ} {at total count i : ℕ} (g : Gathering s at total count
       }
 
   -- the digits are no number
-  pub no_number : i < length s → is_digit (get_or s i 0) ≡ false → is_number (part s at count) ≡ false → NumberAt s at Malformed
+  pub no_number : i < length s → is_digit (get_or s i 0) ≡ false → is_number (part s at count) ≡ false → NumberAt s at None
   no_number p d n = record { meaning = sym (stopped _ (span-stop s i p d) ∙ rw n); place = tt }
 
   -- the byte after the digits ends no number
-  pub no_end : i < length s → is_digit (get_or s i 0) ≡ false → (get_or s i 0 ≡ 32 → ⊥) → (get_or s i 0 ≡ 10 → ⊥) → NumberAt s at Malformed
+  pub no_end : i < length s → is_digit (get_or s i 0) ≡ false → (get_or s i 0 ≡ 32 → ⊥) → (get_or s i 0 ≡ 10 → ⊥) → NumberAt s at None
   unfolding ended_by
   no_end p d a b =
       record { meaning = sym (stopped _ (span-stop s i p d) ∙ simp (ne_eqb _ _ a, ne_eqb _ _ b, cond_same)); place = tt }
 
   -- the text ends with the digits
-  pub text-end : length s ≤ i → NumberAt s at Malformed
+  pub text-end : length s ≤ i → NumberAt s at None
   unfolding ended_by
   text-end p = record { meaning = sym (stopped [] (span-end s i p) ∙ simp cond_same); place = tt }
 
   -- a digit too many
-  pub eleventh : count ≡ 10 → i < length s → 48 ≤ get_or s i 0 → get_or s i 0 < 58 → NumberAt s at Malformed
+  pub eleventh : count ≡ 10 → i < length s → 48 ≤ get_or s i 0 → get_or s i 0 < 58 → NumberAt s at None
   unfolding token
   eleventh z p lo hi =
       let w : List ℕ = (span (drop (i + 1) s)).0 in

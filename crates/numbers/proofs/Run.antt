@@ -8,11 +8,11 @@ use native.Mathlib.Nat.{pow-suc, pow-le-pow_right}
 use native.Mathlib.Numerals.{add-one}
 use native.Mathlib.Omega.{arith}
 use borrow.Author.Tests.{le-leb, lt-leb, ne_eqb}
-use lib.Dec.{T, leb, eqb, leb→le}
+use lib.Dec.{T, eqb}
 use lib.ListN.{length, get_or}
 use Rattle.aiger.specs.Lists.{every}
-use Rattle.aiger.specs.Text.{is_digit, is_number, decimal}
-use Rattle.aiger.proofs.Tests.{and_left, and_right, true-T}
+use Rattle.aiger.specs.Text.{is_digit, is_number}
+use Rattle.aiger.proofs.Tests.{true-T}
 
 -- a total of k digits, and of one more
 pub small-more : (k total d : ℕ) → total < 10 ^ k → d ≤ 9 → total * 10 + d < 10 ^ (k + 1)

@@ -8,20 +8,13 @@ ghost use Rattle.aiger.specs.Text.{is_number, digits, long_digits};
 ghost use Rattle.numbers.specs.Number.{NumberAt, Digits, part};
 ghost use Rattle.numbers.specs.Last.{last_digits};
 
-// What stands at a position of a text: the value, and the position past the byte that ended it.
+// A number that stands at a position of a text: the value, and the position past the byte that ended it.
 #[derive(Clone, Copy)]
 pub enum Number {
     // A space ended it.
     Spaced(u64, usize),
     // A line feed ended it.
     Ended(u64, usize),
-    Malformed,
-}
-
-fn wide(x: u8) -> u64
-    ensures { result ≡ x }
-{
-    x as u64
 }
 
 // Whether the count digits at `at` are a number: at least one, and no leading zero unless it stands alone.
@@ -38,8 +31,8 @@ fn is_number(s: &[u8], at: usize, count: usize) -> bool
     s[at] != b'0'
 }
 
-// Reads the number at a position. Its value is made digit by digit.
-pub fn read_number(s: &[u8], at: usize) -> Number
+// Reads the number at a position: None where none stands there. Its value is made digit by digit.
+pub fn read_number(s: &[u8], at: usize) -> Option<Number>
     ensures { NumberAt s.now at result }
 {
     let mut total: u64 = 0;
@@ -50,30 +43,30 @@ pub fn read_number(s: &[u8], at: usize) -> Number
         match b {
             b'0'..=b'9' => {
                 if count == 10 {
-                    return Number::Malformed;
+                    return None;
                 }
-                total = total * 10 + wide(b - b'0');
+                total = total * 10 + u64::from(b - b'0');
                 count += 1;
                 i += 1;
             }
             b' ' => {
                 if is_number(s, at, count) {
-                    return Number::Spaced(total, i + 1);
+                    return Some(Number::Spaced(total, i + 1));
                 }
-                return Number::Malformed;
+                return None;
             }
             b'\n' => {
                 if is_number(s, at, count) {
-                    return Number::Ended(total, i + 1);
+                    return Some(Number::Ended(total, i + 1));
                 }
-                return Number::Malformed;
+                return None;
             }
             _ => {
-                return Number::Malformed;
+                return None;
             }
         }
     }
-    Number::Malformed
+    None
 }
 
 // How many digits n is written with.
@@ -93,7 +86,7 @@ pub fn long_digit_count(n: u64) -> usize
 pub fn digit_count(n: u32) -> usize
     ensures { result ≡ length (digits n) }
 {
-    long_digit_count(n as u64)
+    long_digit_count(u64::from(n))
 }
 
 // Fills out with the last digits of n, zeros before a shorter n.

@@ -9,6 +9,7 @@ use Rattle.layout.specs.declared.Section.{Section}
 use Rattle.layout.specs.Table.{section_at}
 use Rattle.lines.specs.Lines.{RowsAt}
 use Rattle.lines.specs.declared.Rows.{Rows}
+use Rattle.std.specs.Prelude.{Option}
 use Rattle.sections.specs.Spans.{section_end, SectionAt}
 
 -- how many numbers a line has at least and at most: that of a literal, of a latch and of a gate
@@ -67,7 +68,7 @@ module _ {p : Layout} {k : ℕ} {u : Section} {least most : ℕ} (f : Formed p k
       subst (λ (j : ℕ). u.at + u.rows * j ≤ n) f.most-is (subst (λ (t : Section). section_end t ≤ n) (sym f.section) h)
 
   -- what its lines answer is what the section answers
-  pub form-at : (s : List ℕ) (at limit : ℕ) (w w₁ : List ℕ) (r : Rows) → RowsAt s at least most u.rows limit w u.at w₁ r
+  pub form-at : (s : List ℕ) (at limit : ℕ) (w w₁ : List ℕ) (r : Option Rows) → RowsAt s at least most u.rows limit w u.at w₁ r
       → SectionAt s at (section_at p k) limit w w₁ r
   form-at s at limit w w₁ r q =
       subst (λ (t : Section). SectionAt s at t limit w w₁ r) f.section

@@ -8,7 +8,7 @@ use lib.ListN.{length}
 use lib.Seq.{slice, slice-cons, slice_empty}
 use Rattle.layout.specs.declared.Layout.{Layout}
 use Rattle.layout.specs.Table.{table, section_at}
-use Rattle.lines.specs.declared.Rows.TheVariants.{Read, Malformed}
+use Rattle.std.specs.Prelude.{Some, None}
 use Rattle.sections.specs.Spans.{SectionAt, SpanRead, Stops}
 
 -- the sections before section k are read: where those from it up to `end` stop all do, and where they are read all are
@@ -32,7 +32,7 @@ module _ {s : List ℕ} {at : ℕ} {p : Layout} {first end limit : ℕ} {w : Lis
       others = slice-cons k end (table p) _ h l
 
       -- section k is read
-      pub reached-more : {w₂ : List ℕ} {after : ℕ} {ok : Bool} → SectionAt s next (section_at p k) limit w₁ w₂ (Read after ok)
+      pub reached-more : {w₂ : List ℕ} {after : ℕ} {ok : Bool} → SectionAt s next (section_at p k) limit w₁ w₂ (Some (record { next = after; fits = ok }))
           → length w₂ ≡ length w₁ → Reached s at p first end limit w (k + 1) after (fit && ok) w₂
       reached-more {after = after} q e =
           rw (add-one k)
@@ -44,7 +44,7 @@ module _ {s : List ℕ} {at : ℕ} {p : Layout} {first end limit : ℕ} {w : Lis
           })
 
       -- it is malformed
-      pub reached-stops : (w₂ : List ℕ) → SectionAt s next (section_at p k) limit w₁ w₂ Malformed → Stops s (slice first end (table p)) at
+      pub reached-stops : (w₂ : List ℕ) → SectionAt s next (section_at p k) limit w₁ w₂ None → Stops s (slice first end (table p)) at
       reached-stops w₂ q = r.stops (rw others (Stops.here q))
 
     -- all sections are read

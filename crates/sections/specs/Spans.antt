@@ -1,18 +1,18 @@
 -- What reading the lines of sections, one section after the other, answers and stores. Assumes nothing.
+use Rattle.std.specs.Prelude as std
 use Rattle.std.specs.Prelude.{◌≡◌, Bool, true, ◌&&◌, List, [], ◌∷◌, ℕ, ◌+◌, ◌*◌, drop}
 use Rattle.std.proofs.Math.Option.{none, some}
 use Rattle.aiger.specs.Text.{rows}
 use Rattle.layout.specs.declared.Section.{Section}
 use Rattle.lines.specs.Lines.{RowsRead, RowsAt}
 use Rattle.lines.specs.declared.Rows.{Rows}
-use Rattle.lines.specs.declared.Rows.TheVariants.{Read, Malformed}
 
 -- the word past a section
 abbrev pub section_end : Section → ℕ
 section_end t = t.at + t.rows * t.most
 
 -- the lines of one section
-abbrev pub SectionAt : List ℕ → ℕ → Section → ℕ → List ℕ → List ℕ → Rows → Type 0
+abbrev pub SectionAt : List ℕ → ℕ → Section → ℕ → List ℕ → List ℕ → std.Option Rows → Type 0
 SectionAt s at t limit w w₁ r = RowsAt s at t.least t.most t.rows limit w t.at w₁ r
 
 -- Clause 1.4: the lines of the sections are read one section after the other, from `at` on into w, where what stood before them passed the
@@ -31,6 +31,6 @@ pub data Stops (s : List ℕ) : List Section → ℕ → Type 0 where
       → rows t.least t.most t.rows (drop at s) ≡ some (ls, drop next s) → Stops s ts next → Stops s (t ∷ ts) at
 
 -- the lines of the sections ts stand from `at` on, or one is malformed
-abbrev pub SpanAt : List ℕ → ℕ → List Section → ℕ → List ℕ → List ℕ → Rows → Type 0
-SpanAt s at ts limit w w₁ (Read next fits) = SpanRead s limit next w₁ fits ts at w true
-SpanAt s at ts limit w w₁ Malformed = Stops s ts at
+abbrev pub SpanAt : List ℕ → ℕ → List Section → ℕ → List ℕ → List ℕ → std.Option Rows → Type 0
+SpanAt s at ts limit w w₁ (std.Some r) = SpanRead s limit r.next w₁ r.fits ts at w true
+SpanAt s at ts limit w w₁ std.None = Stops s ts at

@@ -9,7 +9,6 @@ ghost use Rattle.layout.specs.Table.{table, section_at, Chained};
 ghost use Rattle.sections.specs.Sections.{header_at, BodyAt, PastKept, WordsLeft};
 ghost use Rattle.sections.specs.Spans.{section_end, SectionAt, SpanAt};
 
-use binary::Gates;
 use layout::Layout;
 use lines::{Form, Rows};
 
@@ -25,7 +24,14 @@ pub enum Body {
 
 // Reads the lines of section k of the table, and stores their numbers where it begins. A call with constants for each form of a line: the
 // compiler then makes a loop for that form alone.
-fn read_section(s: &[u8], at: usize, p: Layout, k: usize, limit: u32, words: &mut [u32]) -> Rows
+fn read_section(
+    s: &[u8],
+    at: usize,
+    p: Layout,
+    k: usize,
+    limit: u32,
+    words: &mut [u32],
+) -> Option<Rows>
     requires at_in_bounds { at ≤ length s.now }
     requires k_bound { k < 6 }
     requires k_in_bounds { section_end (section_at p k) ≤ length words.old }
@@ -70,28 +76,20 @@ fn read_span(
     end: usize,
     limit: u32,
     words: &mut [u32],
-) -> Rows
+) -> Option<Rows>
     requires at_in_bounds { at ≤ length s.now }
     requires first_le_end { (first ≤ end) × (end ≤ 6) }
     requires chained { Chained (table p) 7 p.end × (p.end ≤ length words.old) }
     ensures { SpanAt s.now at (slice first end (table p)) limit words.old words.new result }
 {
     let mut next = at;
-    let mut fit = true;
-    let mut k = first;
-    while k < end {
-        match read_section(s, next, p, k, limit, words) {
-            Rows::Read(after, ok) => {
-                next = after;
-                fit = fit & ok;
-                k += 1;
-            }
-            Rows::Malformed => {
-                return Rows::Malformed;
-            }
-        }
+    let mut fits = true;
+    for k in first..end {
+        let read = read_section(s, next, p, k, limit, words)?;
+        next = read.next;
+        fits = fits & read.fits;
     }
-    Rows::Read(next, fit)
+    Some(Rows { next, fits })
 }
 
 // Reads the lines after a header in text form, section after section, and stores their numbers after the counts, which words has.
@@ -103,13 +101,13 @@ fn read_text(s: &[u8], at: usize, p: Layout, limit: u32, words: &mut [u32]) -> B
     ensures { BodyAt false (header_at words.old) (drop at s.now) words.new result
         × PastKept words.old words.new result }
 {
-    let Rows::Read(end, fit) = read_span(s, at, p, 0, 6, limit, words) else {
+    let Some(lines) = read_span(s, at, p, 0, 6, limit, words) else {
         return Body::Malformed;
     };
-    if !lines::is_tail(s, end) {
+    if !lines::is_tail(s, lines.next) {
         return Body::Malformed;
     }
-    if fit {
+    if lines.fits {
         return Body::Read;
     }
     Body::Large
@@ -137,22 +135,21 @@ fn read_binary(s: &[u8], at: usize, p: Layout, limit: u32, words: &mut [u32]) ->
     binary::store_implied(words, i.at, 1, i.rows);
     let l = layout::section_at(p, 1);
     let latch = variable(p.i + 1);
-    let Rows::Read(at, latches_fit) = binary::read_latches(s, at, l.rows, latch, limit, words, l.at)
-    else {
+    let Some(latches) = binary::read_latches(s, at, l.rows, latch, limit, words, l.at) else {
         return Body::Malformed;
     };
-    let Rows::Read(at, lines_fit) = read_span(s, at, p, 2, 5, limit, words) else {
+    let Some(lines) = read_span(s, latches.next, p, 2, 5, limit, words) else {
         return Body::Malformed;
     };
     let g = layout::section_at(p, 5);
     let gate = variable(p.i + p.l + 1);
-    let Gates::Read(end) = binary::read_gates(s, at, g.rows, gate, words, g.at) else {
+    let Some(end) = binary::read_gates(s, lines.next, g.rows, gate, words, g.at) else {
         return Body::Damaged;
     };
     if !lines::is_tail(s, end) {
         return Body::Malformed;
     }
-    if latches_fit & lines_fit {
+    if latches.fits & lines.fits {
         return Body::Read;
     }
     Body::Large

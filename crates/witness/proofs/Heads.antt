@@ -15,7 +15,9 @@ use Rattle.aiger.specs.Witness.{read_run, read_witness}
 use Rattle.numbers.specs.Number.{NumberAt}
 use Rattle.numbers.specs.declared.Number.{Number}
 use Rattle.numbers.specs.declared.Number.TheVariants.{Ended}
-use Rattle.numbers.proofs.Reading.{NotEnded, not-ended, on-ended}
+use Rattle.std.specs.Prelude as std
+use Rattle.numbers.proofs.Reading.{on-ended}
+use Rattle.numbers.specs.Number as numbers
 use Rattle.witness.specs.Heading.{heading, meant, Within, Placed, HeadingAt}
 use Rattle.witness.specs.declared.Heading.{Heading}
 use Rattle.witness.specs.declared.Heading.TheVariants.{Read, Malformed}
@@ -78,10 +80,10 @@ module _ (w : List ℕ) (h : 3 ≤ length w) where
     unfolding heading
     by_number = rw opened
 
-    pub other : {r : Number} → NumberAt w 3 r → NotEnded r → none ≡ heading w
-    other g t = sym (not-ended both g t) ∙ by_number
+    pub other : {r : std.Option Number} → NumberAt w 3 r → on_token (numbers.meant w r) (λ b f. none) both ≡ none → none ≡ heading w
+    other g z = sym z ∙ ap (λ (x : Token). on_token x (λ b f. none) both) g.meaning ∙ by_number
 
-    pub number : {r : Number} {v next : ℕ} → NumberAt w 3 r → r ≡ Ended v next → HeadingAt w (Read v next)
+    pub number : {r : std.Option Number} {v next : ℕ} → NumberAt w 3 r → r ≡ std.Some (Ended v next) → HeadingAt w (Read v next)
     number g e =
         let k = on-ended g e in
         record { meaning = sym (ap (λ (x : Token). on_token x (λ b f. none) both) k.0) ∙ by_number; place = record { inside = k.1.inside; small = k.1.small } }

@@ -199,7 +199,10 @@ pub fn read_heading(text: &[u8]) -> Heading
     if text[2] != b'b' {
         return Heading::Malformed;
     }
-    let Number::Ended(b, next) = numbers::read_number(text, 3) else {
+    let Some(number) = numbers::read_number(text, 3) else {
+        return Heading::Malformed;
+    };
+    let Number::Ended(b, next) = number else {
         return Heading::Malformed;
     };
     Heading::Read(b, next)

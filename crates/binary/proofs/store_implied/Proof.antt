@@ -1,6 +1,5 @@
 -- `binary::store_implied` meets its contract: what is stored, and then the rest, is the whole. Assumes nothing.
 use native.Mathlib.Omega.{arith}
-use borrow.Author.Rules.{rules}
 use mathlib.Core.Path.{refl}
 use Rattle.binary.proofs.Implied.{Storing, start, more, end}
 use Rattle.binary.proofs.store_implied.Statement.{statement}

@@ -3,8 +3,6 @@ use native.Mathlib.Omega.{arith}
 use Rattle.differences.proofs.Writing.{Counting, count-start, count-more, count-done}
 use Rattle.differences.proofs.group_count.Statement.{statement}
 use Rattle.differences.proofs.group_count.Tie as tie
-use Rattle.differences.proofs.group_count.Reads as reads
-use Rattle.differences.proofs.group_count.Lts as lts
 
 abbrev invariant-loop : tie.invariant-loop-rest
 invariant-loop n count₀ rest₀ count rest = Counting n count rest

@@ -5,8 +5,6 @@ use lib.ListN.{length, take-append-drop, length-set}
 use Rattle.differences.proofs.Writing.{Written, write-start, inside, write-more, write_done}
 use Rattle.differences.proofs.write_difference.Statement.{statement}
 use Rattle.differences.proofs.write_difference.Tie as tie
-use Rattle.differences.proofs.write_difference.Reads as reads
-use Rattle.differences.proofs.write_difference.Lts as lts
 
 abbrev invariant-loop : tie.invariant-loop-rest
 invariant-loop out₀ at n end₀ rest₀ out end rest = Written out₀ at n out end rest × (length out ≡ length out₀)

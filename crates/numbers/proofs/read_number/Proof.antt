@@ -1,6 +1,6 @@
 -- `numbers::read_number` meets its contract. The loop's invariant is `Gathering`, and the laws of `proofs/Gather.antt` say what each
 -- answer means. The measure is what is left of the text. Assumes nothing.
-use mathlib.Core.Path.{refl, sym, ◌∙◌}
+use mathlib.Core.Path.{sym, ◌∙◌}
 use Prim.Native.Nat.{ℕ, ◌-◌}
 use native.Mathlib.Omega.{arith}
 use lib.ListN.{length, get_or}
@@ -72,13 +72,13 @@ mul-total c =
     let l = c.before.before.before.before in
     omega (arith, low-total l.loop-i.invariant (omega arith))
 
-wide-requires : tie.Need-wide-requires invariant-loop decreases-loop
-wide-requires c κs = tt
+from-requires : tie.Need-from-requires invariant-loop decreases-loop
+from-requires c κs = tt
 
 add_total : tie.Need-overflow_add-total invariant-loop decreases-loop
 add_total c =
     let l = c.before.before.before.before.before in
-    omega (arith, low-total l.loop-i.invariant (omega arith), c.wide.ensures)
+    omega (arith, low-total l.loop-i.invariant (omega arith), c.from.ensures)
 
 add-count : tie.Need-overflow_add-count invariant-loop decreases-loop
 add-count c = omega arith
@@ -92,7 +92,7 @@ loop-less c = omega arith
 loop-again : tie.Need-loop-i-preserved invariant-loop decreases-loop
 loop-again c =
     let l = c.before.before.before.before.before in
-    turn l.loop-i.invariant (omega arith) (omega arith) (omega arith) (omega arith) c.wide.result c.wide.ensures
+    turn l.loop-i.invariant (omega arith) (omega arith) (omega arith) (omega arith) c.from.result c.from.ensures
 
 returns-6 : tie.Need-returns-in_default invariant-loop decreases-loop
 returns-6 c =
@@ -116,4 +116,4 @@ returns-8 c =
 pub read_number_spec : {M : Type 1} → statement M
 read_number_spec =
     tie.close
-    (tie.spec invariant-loop decreases-loop loop-holds shared-slice-read-b is-number-requires add-t12 returns returns-2 is-number-requires-2 add-t14 returns-3 returns-4 returns-5 mul-total wide-requires add_total add-count add-i loop-less loop-again returns-6 returns-7 returns-8)
+    (tie.spec invariant-loop decreases-loop loop-holds shared-slice-read-b is-number-requires add-t12 returns returns-2 is-number-requires-2 add-t14 returns-3 returns-4 returns-5 mul-total from-requires add_total add-count add-i loop-less loop-again returns-6 returns-7 returns-8)
