@@ -1,6 +1,6 @@
 -- What is decided of places that are tried one after the other, from a starting place on and no more than a budget of them. The search asks
 -- this of the places that its choice says (`decision` Reach). What holds of a decision, and all that is known of it above, are the laws
--- `hit-first`, `Clear-none` and `spent-first`. Assumes nothing.
+-- `hit-first`, `clear_none` and `spent-first`. Assumes nothing.
 use Rattle.std.specs.Prelude.{Bool, cond, ℕ, ◌+◌, min, leb}
 use Rattle.std.proofs.Math.Option.{Option, none, some}
 pub use Rattle.aiger.specs.Search.{least_below}
