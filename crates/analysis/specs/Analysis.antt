@@ -1,5 +1,5 @@
 -- Analysis of a conflict, as functions of the words. Assumes nothing.
-use Rattle.std.specs.Prelude.{◌≡◌, Bool, true, false, cond, List, ℕ, zero, suc, min, ◌+◌, ◌-◌, ◌/◌, eqb, leb, ltb}
+use Rattle.std.specs.Prelude.{◌≡◌, Bool, true, false, cond, List, ℕ, zero, suc, ◌+◌, ◌-◌, ◌/◌, eqb, leb, ltb}
 use Rattle.memory.specs.Record.{Counted, counted, largest, field, stored, opposite}
 use Rattle.memory.specs.declared.Netlist.{Netlist}
 use Rattle.memory.specs.declared.Arena.{Arena}
@@ -28,8 +28,8 @@ analysis_of d n = record { length = d.length; whole = d.whole; current = n }
 abbrev pub draft : Analysis → Draft
 draft a = draft_of a.length a.whole
 
-abbrev pub sum : ℕ → ℕ → ℕ
-sum a b = min (a + b) largest
+unfoldable pub sum : ℕ → ℕ → ℕ
+sum a b = cond (ltb (largest - a) b) largest (a + b)
 
 abbrev pub less : ℕ → ℕ
 less a = a - 1

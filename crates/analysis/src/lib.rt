@@ -21,12 +21,19 @@ pub struct Analysis {
     pub current: u32,
 }
 
+// a + b, or the largest word where that is too large for one.
+fn sum(a: u32, b: u32) -> u32
+    ensures { result ≡ S.sum a b }
+{
+    a.saturating_add(b)
+}
+
 // Raises the activity of node v.
 fn touch(work: &mut [u32], nodes: u32, v: u32, step: u32)
     ensures { work.new ≡ S.touched work.old nodes v step }
 {
     let act = field(work, nodes, v, ACT);
-    set_field(work, nodes, v, ACT, act.saturating_add(step));
+    set_field(work, nodes, v, ACT, sum(act, step));
 }
 
 // n, and one more where node v is of this level.
@@ -34,7 +41,7 @@ fn tally(work: &[u32], nodes: u32, v: u32, level: u32, n: u32) -> u32
     ensures { result ≡ S.tallied work.now nodes v level n }
 {
     if field(work, nodes, v, LEVEL) == level {
-        return n.saturating_add(1);
+        return sum(n, 1);
     }
     n
 }
@@ -96,7 +103,7 @@ fn replace(
     Analysis {
         length: e.length,
         whole: e.whole,
-        current: a.current.saturating_sub(1).saturating_add(n),
+        current: sum(a.current.saturating_sub(1), n),
     }
 }
 

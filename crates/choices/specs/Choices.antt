@@ -104,8 +104,8 @@ assumed_by w net s l = cond (eqb (value w net.nodes l) 0) (contradicted w net s 
 unfoldable pub assumed : List ℕ → Netlist → Search → ℕ → Searched
 assumed w net s v = assumed_by w net s (wish w net.nodes v)
 
-abbrev pub sum : ℕ → ℕ → ℕ
-sum a b = min (a + b) 18446744073709551615
+unfoldable pub sum : ℕ → ℕ → ℕ
+sum a b = cond (ltb (18446744073709551615 - a) b) 18446744073709551615 (a + b)
 
 abbrev pub ordered : Order → Bool → ℕ → ℕ → Order
 ordered o sweep goal more =

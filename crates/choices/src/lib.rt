@@ -170,13 +170,20 @@ fn assume(work: &mut [u32], net: Netlist, s: Search, v: u32) -> Search
     take(work, net, s, l)
 }
 
+// a + b, or the largest number where that is too large for one.
+fn sum(a: u64, b: u64) -> u64
+    ensures { result ≡ Ch.sum a b }
+{
+    a.saturating_add(b)
+}
+
 fn ordered(o: Order, sweep: bool, goal: u32, more: u64) -> Order
     ensures { result ≡ Ch.ordered o sweep goal more }
 {
     Order {
         sweep,
         goal,
-        slice: o.ticks.saturating_add(more),
+        slice: sum(o.ticks, more),
         ..o
     }
 }

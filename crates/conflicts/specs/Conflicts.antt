@@ -1,5 +1,5 @@
 -- The conflict search, as functions of the words and of where the search stands. Assumes nothing.
-use Rattle.std.specs.Prelude.{◌≡◌, Bool, true, false, cond, List, ℕ, zero, suc, min, ◌+◌, ◌-◌, ◌*◌, ◌/◌, eqb, leb, ltb, set}
+use Rattle.std.specs.Prelude.{◌≡◌, Bool, true, false, cond, List, ℕ, zero, suc, ◌+◌, ◌-◌, ◌*◌, ◌/◌, eqb, leb, ltb, set}
 use Rattle.memory.specs.Record.{undef, successor, stored}
 use Rattle.memory.specs.declared.Netlist.{Netlist}
 use Rattle.memory.specs.declared.Arena.{Arena}
@@ -53,8 +53,8 @@ initial h = record { trail = first_trail; arena = arena_of 0 0; heap = h; order 
 
 -- ---- a step
 
-abbrev pub sum : ℕ → ℕ → ℕ
-sum a b = min (a + b) 18446744073709551615
+unfoldable pub sum : ℕ → ℕ → ℕ
+sum a b = cond (ltb (18446744073709551615 - a) b) 18446744073709551615 (a + b)
 
 abbrev pub work_of : ℕ → ℕ → ℕ
 work_of from to = to - from + 1

@@ -121,11 +121,18 @@ fn work_of(from: u32, to: u32) -> u64
     u64::from(to.saturating_sub(from)) + 1
 }
 
+// a + b, or the largest number where that is too large for one.
+fn sum(a: u64, b: u64) -> u64
+    ensures { result ≡ Cf.sum a b }
+{
+    a.saturating_add(b)
+}
+
 fn counted(o: Order, n: u64) -> Order
     ensures { result ≡ Cf.counted o n }
 {
     Order {
-        ticks: o.ticks.saturating_add(n),
+        ticks: sum(o.ticks, n),
         ..o
     }
 }
@@ -171,7 +178,7 @@ fn doubled(o: Order) -> Order
     ensures { result ≡ Cf.doubled o }
 {
     Order {
-        span: o.span.saturating_add(o.span),
+        span: sum(o.span, o.span),
         ..o
     }
 }
@@ -188,8 +195,8 @@ fn alternate(work: &mut [u32], net: Netlist, s: Search) -> Search
         let d = doubled(o);
         return change(work, net, with_order(s, d), false, o.goal, d.span);
     }
-    let twice = o.span.saturating_add(o.span);
-    let more = twice.saturating_add(twice);
+    let twice = sum(o.span, o.span);
+    let more = sum(twice, twice);
     change(work, net, s, true, o.goal, more)
 }
 

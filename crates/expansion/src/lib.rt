@@ -71,7 +71,6 @@ fn expand_row(
     ensures { out.new
         ≡ stored out.old at (bit_line (fill (pins_of pins.now user) (bits_at out.old from) 0 0 inputs)) }
 {
-    // A while that counts down: the invariant names how many inputs are left, and a reversed range has no such number.
     let mut j = n;
     let mut i = inputs;
     while 0 < i {
@@ -103,7 +102,6 @@ fn expand_rows(
     let end = start + (t + 1) * (inputs + 1);
     let mut from = start + (t + 1) * (n + 1);
     let mut at = end;
-    // A while that counts down, as in expand_row.
     let mut u = t + 1;
     while 0 < u {
         u -= 1;

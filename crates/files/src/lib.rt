@@ -80,7 +80,7 @@ fn keep_name(name: &[u8], kept: &mut [u8]) -> usize
     room
 }
 
-// The error of the system with which opening a file failed.
+// The error of the system with which opening a file failed; INVALID where it has no number.
 fn system_error(error: Error) -> Error {
     Error::from_raw_os_error(error.raw_os_error().unwrap_or(INVALID))
 }

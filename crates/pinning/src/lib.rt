@@ -89,7 +89,6 @@ fn enter_pins(m: &[u32], inputs: usize, pins: &[u8], user: usize, table: &mut [u
     requires by_index_2 { (v : ℕ) → get_or table.old v 2 ≡ 2 }
     ensures { (v : ℕ) → get_or table.new v 2 ≡ pin_of (pins_of pins.now user) 0 (column m.now 7 1 inputs) v }
 {
-    // A while that counts down: the invariant names how many inputs are left, and a reversed range has no such number.
     let mut i = inputs;
     while 0 < i {
         i -= 1;

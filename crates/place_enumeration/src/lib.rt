@@ -45,9 +45,6 @@ pub fn first_hit_from(
         enumeration::put_free(x, n, work);
         return Frame::Hit;
     }
-    if places::passes_all(n, end) {
-        Frame::Clear
-    } else {
-        Frame::Spent
-    }
+    let done = places::passes_all(n, end);
+    if done { Frame::Clear } else { Frame::Spent }
 }

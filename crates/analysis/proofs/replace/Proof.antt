@@ -17,7 +17,7 @@ returns c =
       ← c.saturating_sub.ensures,
       ← c.saturating_sub-2.ensures,
       ← t.count,
-      ← c.saturating_add.ensures,
+      ← c.sum.ensures,
     ) (record { words = t.words; now = refl })
 
 pub replace_spec : {M : Type 1} → statement M

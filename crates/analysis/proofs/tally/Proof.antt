@@ -7,7 +7,7 @@ use Rattle.analysis.proofs.tally.Tie as tie
 
 returns : tie.Need-returns-then-field-level
 unfolding S.tallied
-returns c = rw (← c.field.ensures, eq-eqb _ _ c.if-field-level.true) c.saturating_add.ensures
+returns c = rw (← c.field.ensures, eq-eqb _ _ c.if-field-level.true) c.sum.ensures
 
 returns-2 : tie.Need-returns
 unfolding S.tallied

@@ -9,7 +9,7 @@ unfolding S.touched
 returns c =
     rw (
       ← c.field-act.ensures,
-      ← c.saturating_add.ensures,
+      ← c.sum.ensures,
     ) c.set_field.ensures
 
 pub touch_spec : {M : Type 1} → statement M

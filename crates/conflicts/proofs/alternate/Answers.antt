@@ -21,5 +21,5 @@ returns c =
     let s = c.args in
     rw (alternated-sweep s.work.now s.net s.s c.if-o.false
     c.if-o-2.false
-    c.saturating_add-twice.ensures c.saturating_add-twice.ensures
-    c.saturating_add-more.ensures) c.change-2.ensures
+    c.sum-twice.ensures c.sum-twice.ensures
+    c.sum-more.ensures) c.change-2.ensures
