@@ -80,20 +80,21 @@ fn keep_name(name: &[u8], kept: &mut [u8]) -> usize
     room
 }
 
-// The error of the system with which opening a file failed; INVALID where it has no number.
-fn system_error(error: Error) -> Error {
-    Error::from_raw_os_error(error.raw_os_error().unwrap_or(INVALID))
+// The number of the system's error with which opening a file failed; INVALID where it has none.
+fn system_number(error: Error) -> i32 {
+    error.raw_os_error().unwrap_or(INVALID)
 }
 
-// Opens the file with a name. A name that is no text is that of no file.
-fn open(rt: HostRuntime, name: &[u8]) -> Result<File, Error> {
+// Opens the file with a name, or tells the number of the error. A name that is no text is that of no file. The number and not an `Error`:
+// with that, each read of a file makes three copies more of what it read.
+fn open(rt: HostRuntime, name: &[u8]) -> Result<File, i32> {
     if name.len() >= 4096 {
-        return Err(Error::from_raw_os_error(TOO_LONG));
+        return Err(TOO_LONG);
     }
     let Ok(path) = str::from_utf8(name) else {
-        return Err(Error::from_raw_os_error(NO_TEXT));
+        return Err(NO_TEXT);
     };
-    File::open(&rt, path).map_err(system_error)
+    File::open(&rt, path).map_err(system_number)
 }
 
 // Reads the file with a name. That it is the file of this name is for the system to say.
@@ -109,8 +110,8 @@ fn read_named_content(rt: HostRuntime, name: &[u8]) -> Content
             }
             content
         }
-        Err(error) => {
-            input::fail(rt, name, error);
+        Err(code) => {
+            input::fail(rt, name, Error::from_raw_os_error(code));
             input::unread()
         }
     }
