@@ -140,7 +140,10 @@ pub fn check_fold(layout: Layout, b: u64, t: u64, room: usize, len: usize) -> Re
     requires { Limited layout }
     ensures { (c : Circuit) → CountsOf c layout → judge (fold_tests c b t room len) ≡ told result }
 {
-    limits::check_bounds(layout, b, t, true, room)?;
+    // Not `?`: the edit thirteen_for_all plants the number that is handed on here.
+    if let Err(e) = limits::check_bounds(layout, b, t, true, room) {
+        return Err(e);
+    }
     let units = limits::size(layout, t as usize);
     if len < 24 * units + 64 {
         return Err(Refusal::Output);

@@ -5,9 +5,7 @@ use mathlib.Core.List.{List}
 use Prim.Native.Nat.{ℕ, zero, suc, ◌+◌, ◌-◌, ◌*◌, ◌≤◌, ◌<◌, min}
 use native.Mathlib.Decide.{ℕ_discrete}
 use native.Mathlib.Omega.{arith}
-use borrow.Rule.Slice.PartMut.{put_mid}
-use Rattle.std.proofs.lemmas.List.{get_or_append_left, get_or-append_right, get_or-take, get_or-drop, length-take-le}
-use lib.ListN.{length, get_or, set, take, drop}
+use lib.ListN.{length, get_or, set}
 use lib.Seq.{get_or-set_same, get_or-set_other}
 use Rattle.aiger.specs.Bits.{nonzero, bit}
 use Rattle.aiger.specs.Frames.{free_bit}
@@ -19,16 +17,21 @@ pub use Rattle.aiger.proofs.Tests.{nonzero-true as is_some, nonzero-false as is_
 
 -- ---- copies
 
--- the front of a list that takes the first n words of `from`
-pub copied-front : (from to part : List ℕ) (n : ℕ) → n ≤ length from → n ≤ length to → part ≡ take n from
-    → Copied from n to (put_mid 0 n to part)
-copied-front from to part n h k e =
-    let l : length part ≡ n = ap length e ∙ length-take-le n from h in
+pub copied_none : (from to : List ℕ) → Copied from 0 to to
+copied_none from to = record { new = λ j h. absurd (omega arith); others = λ j h. refl }
+
+pub copied_more : (from to mid : List ℕ) (i : ℕ) → i < length mid → Copied from i to mid
+    → Copied from (i + 1) to (set mid i (get_or from i 0))
+copied_more from to mid i h c =
     record {
-      new = λ j m. get_or_append_left part (drop n to) 0 j (omega arith) ∙ ap (λ (t : List ℕ). get_or t j 0) e ∙ get_or-take n from j 0 m;
-      others = λ j m.
-          let q : n + (j - n) ≡ j = omega arith in
-          get_or-append_right part (drop n to) n j 0 l m ∙ get_or-drop n to (j - n) 0 ∙ ap (λ (i : ℕ). get_or to i 0) q;
+      new = λ j l.
+          elim (ℕ_discrete j i) [
+            | yes e ↦
+                subst (λ (k : ℕ). get_or (set mid i (get_or from i 0)) k 0 ≡ get_or from k 0) (sym e)
+                (get_or-set_same mid i (get_or from i 0) 0 h)
+            | no e ↦ get_or-set_other mid i j (get_or from i 0) 0 e ∙ c.new j (omega arith)
+          ];
+      others = λ j l. get_or-set_other mid i j (get_or from i 0) 0 (λ e. omega arith) ∙ c.others j (omega arith);
     }
 
 -- ---- the place of a sequence

@@ -14,7 +14,9 @@ pub fn copy_bits(from: &[u32], n: usize, to: &mut [u32])
     requires { (n ≤ length from.now) × (n ≤ length to.old) }
     ensures { Copied from.now n to.old to.new }
 {
-    to[..n].copy_from_slice(&from[..n]);
+    for i in 0..n {
+        to[i] = from[i];
+    }
 }
 
 // The place with one free bit more; 2 to the power 32 where it is not below.

@@ -9,7 +9,7 @@ use Rattle.diagram_rows.proofs.Follow.{lines-done, lines-full, lines_more}
 use Rattle.diagram_rows.proofs.constrain.Goals as goal
 
 pub bounds-m-constraints : goal.bounds-m-constraints
-bounds-m-constraints c = constraint-fits c.requires c.loop-k.k c.loop-k-test.true
+bounds-m-constraints c = omega (arith, constraint-fits c.requires c.loop-k.k c.loop-k-test.true)
 
 pub returns-in_err-con : goal.returns-in_err-con
 returns-in_err-con c =

@@ -48,13 +48,13 @@ returns-2 : tie.Need-returns-then-done
 returns-2 c =
     let R = c.requires.ready in
     let n = bits_are (circuit_in c.args.m.now) c.args.q.t R.layout_of.u-is (inputs_are R.held R.layout_of) in
-    from-clear (circuit_in c.args.m.now) c.args.q.b c.args.q.t c.args.q.place c.args.q.d n c.end_of-to.ensures c.first_in-x.ensures c.if-x-to.false (sym c.passes_all-done.ensures ∙ c.if-done.true)
+    from-clear (circuit_in c.args.m.now) c.args.q.b c.args.q.t c.args.q.place c.args.q.d n c.end_of-to.ensures c.first_in-x.ensures c.if-x-to.false (grind (arith, c.passes_all-done.ensures, c.if-done.true))
 
 returns-3 : tie.Need-returns-else-done
 returns-3 c =
     let R = c.requires.ready in
     let n = bits_are (circuit_in c.args.m.now) c.args.q.t R.layout_of.u-is (inputs_are R.held R.layout_of) in
-    from-spent (circuit_in c.args.m.now) c.args.q.b c.args.q.t c.args.q.place c.args.q.d n c.end_of-to.ensures c.first_in-x.ensures c.if-x-to.false (sym c.passes_all-done.ensures ∙ c.if-done.false)
+    from-spent (circuit_in c.args.m.now) c.args.q.b c.args.q.t c.args.q.place c.args.q.d n c.end_of-to.ensures c.first_in-x.ensures c.if-x-to.false (grind (arith, c.passes_all-done.ensures, c.if-done.false))
 
 pub first_hit_from_spec : {M : Type 1} → statement M
 first_hit_from_spec =
