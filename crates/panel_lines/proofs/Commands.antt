@@ -218,8 +218,8 @@ module _ (s : List ℕ) (at : ℕ) where
         flag-other e = sym (flag_word ∙ rw (n.name-is, ← e))
 
 -- the table of verbs with one verb more before it
-pub verb-more : (b : Bool) (v : Verb) {r x y : Option Verb} → r ≡ cond b (some v) x → x ≡ y → r ≡ cond b (some v) y
-verb-more b v e f = e ∙ ap (cond b (some v)) f
+pub verb-more : {A : Type 0} (b : Bool) (v : A) {r x y : A} → r ≡ cond b v x → x ≡ y → r ≡ cond b v y
+verb-more b v e f = e ∙ ap (cond b v) f
 
 -- ---- a request
 
